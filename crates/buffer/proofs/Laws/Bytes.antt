@@ -1,0 +1,57 @@
+-- Laws of lists of bytes and of the numbers in them.
+-- In order: lists of bytes, made, taken apart and joined; the bytes of a field; a number's two bytes and back.
+-- Assumes nothing.
+use Prim.Native.Nat.{ℕ, zero, suc, _+_, _/_, _%_, _<_}
+use mathlib.Core.Path.{_≡_}
+use mathlib.Core.List.{List, [], _∷_, _++_}
+use native.Mathlib.Omega.{arith}
+use lib.Arith.{digits-div, digits-mod}
+use lib.ListN.{take, drop}
+use lib.Seq.{getD-drop}
+use Rattle.buffer.specs.Bytes.{Bytes, twoBytes, fourBytes, number}
+
+-- no byte
+pub bytes-nil : Bytes []
+bytes-nil i = omega arith
+
+-- one byte more
+pub bytes-cons : {b : ℕ} (bs : List ℕ) → b < 256 → Bytes bs → Bytes (b ∷ bs)
+bytes-cons bs h t zero = h
+bytes-cons bs h t (suc i) = t i
+
+-- the bytes behind the first
+pub bytes-tail : (b : ℕ) (bs : List ℕ) → Bytes (b ∷ bs) → Bytes bs
+bytes-tail b bs t i = t (suc i)
+
+-- the bytes at the front
+pub bytes-take : (n : ℕ) (bs : List ℕ) → Bytes bs → Bytes (take n bs)
+bytes-take zero bs t = bytes-nil
+bytes-take (suc n) [] t = bytes-nil
+bytes-take (suc n) (b ∷ bs) t = bytes-cons (take n bs) (t 0) (bytes-take n bs (bytes-tail b bs t))
+
+-- the bytes from a place on
+pub bytes-drop : (n : ℕ) (bs : List ℕ) → Bytes bs → Bytes (drop n bs)
+bytes-drop n bs t i = rw getD-drop (t (n + i))
+
+-- bytes behind bytes
+pub bytes-append : (bs cs : List ℕ) → Bytes bs → Bytes cs → Bytes (bs ++ cs)
+bytes-append [] cs t u = u
+bytes-append (b ∷ bs) cs t u = bytes-cons (bs ++ cs) (t 0) (bytes-append bs cs (bytes-tail b bs t) u)
+
+-- the bytes of a field of two are bytes
+pub bytes-twoBytes : (n : ℕ) → n < 65536 → Bytes (twoBytes n)
+bytes-twoBytes n h = bytes-cons (n % 256 ∷ []) (omega arith) (bytes-cons [] (omega arith) bytes-nil)
+
+-- and so are those of a field of four
+pub bytes-fourBytes : (n : ℕ) → n < 4294967296 → Bytes (fourBytes n)
+bytes-fourBytes n h =
+    bytes-append (twoBytes (n / 65536)) (twoBytes (n % 65536)) (bytes-twoBytes (n / 65536) (omega arith))
+    (bytes-twoBytes (n % 65536) (omega arith))
+
+-- a number's two bytes spell it
+pub number-twoBytes : (n : ℕ) → number (n / 256) (n % 256) ≡ n
+number-twoBytes n = omega arith
+
+-- and two bytes are those of the number that they spell
+pub twoBytes-number : (high low : ℕ) → low < 256 → twoBytes (number high low) ≡ high ∷ low ∷ []
+twoBytes-number high low h = rw (digits-div high h, digits-mod high h)

@@ -1,0 +1,263 @@
+-- Laws of literals and their five bytes, for a form in general.
+-- In order: a literal's fields and bytes; what three fields spell, and the fields of what is spelled; five bytes and the
+-- fields in them; decoding in a form, from bytes to a literal and back; the fields' ranges in a form. Assumes nothing.
+use Prim.Native.Nat.{ℕ, zero, suc, _+_, _≤_, _<_, max}
+use mathlib.Core.Bool.{Bool, true, false, _&&_, cond}
+use mathlib.Core.List.{List, [], _∷_, _++_}
+use mathlib.Core.Logic.{_↔_}
+use mathlib.Core.Path.{_≡_, refl, sym, ap, ap₂, _∙_}
+use native.Mathlib.Omega.{arith}
+use lib.Dec.{T, leb, eqb, leb→le}
+use lib.Ieee.Bits.{is-true}
+use lib.Ieee.Fits.{and-l, and-r}
+use lib.ListN.{length, getD, take, drop, take-append-drop}
+use lib.Seq.{getD-take}
+use borrow.Author.Tests.{eqb-true, ne-eqb, lt-leb}
+use Rattle.buffer.specs.Bytes.{Bytes, twoBytes, numberAt}
+use Rattle.buffer.specs.Write.{write}
+use Rattle.buffer.proofs.Laws.Write.{write-write}
+use Rattle.buffer.proofs.Laws.Bytes.{bytes-cons, bytes-append, bytes-twoBytes, number-twoBytes, twoBytes-number}
+use Rattle.literal.specs.declared.Limits.{Limits}
+use Rattle.literal.specs.declared.SignedAtom.the-variants.{Positive, Negative}
+use Rattle.literal.specs.declared.Literal.{Literal}
+use Rattle.literal.specs.declared.Literal.the-variants.{Signed, Defeated, Derived, RuleDefeated}
+use Rattle.literal.specs.declared.Decoded.{Decoded}
+use Rattle.literal.specs.declared.Decoded.the-variants.{Valid, Wrong}
+use Rattle.literal.specs.Literal.{atomNumber, kind, tagField, atomField, encoded, inRange, takes}
+use Rattle.literal.specs.Literal.{negatedKind, signedAtom, spelled, within, decoded}
+
+-- the largest kind
+pub kind-most : (l : Literal) → kind l ≤ 6
+unfolding kind
+kind-most (Signed (Positive a)) = omega arith
+kind-most (Signed (Negative a)) = omega arith
+kind-most (Defeated t (Positive a)) = omega arith
+kind-most (Defeated t (Negative a)) = omega arith
+kind-most (Derived t (Positive a)) = omega arith
+kind-most (Derived t (Negative a)) = omega arith
+kind-most (RuleDefeated n) = omega arith
+
+-- a literal has five bytes
+pub length-encoded : (l : Literal) → length (encoded l) ≡ 5
+unfolding encoded
+length-encoded l = refl
+
+-- which are bytes where its fields fit two bytes each
+pub bytes-encoded : (l : Literal) → tagField l < 65536 → atomField l < 65536 → Bytes (encoded l)
+unfolding encoded
+bytes-encoded l ht ha =
+    bytes-cons (twoBytes (tagField l) ++ twoBytes (atomField l)) (omega (arith, kind-most l))
+    (bytes-append (twoBytes (tagField l)) (twoBytes (atomField l)) (bytes-twoBytes (tagField l) ht)
+    (bytes-twoBytes (atomField l) ha))
+
+-- the fields written one behind the other are the literal's bytes written
+pub write-fields :
+    (d : List ℕ) (at : ℕ) (l : Literal) →
+    at ≤ length d →
+    write (write (write d at (kind l ∷ [])) (at + 1) (twoBytes (tagField l))) (at + 3) (twoBytes (atomField l)) ≡
+    write d at (encoded l)
+unfolding encoded
+write-fields d at l h =
+    ap (λ (w : List ℕ). write w (at + 3) (twoBytes (atomField l)))
+    (write-write d at (kind l ∷ []) h (twoBytes (tagField l)))
+    ∙ write-write d at (kind l ∷ twoBytes (tagField l)) h (twoBytes (atomField l))
+
+-- a literal's fields spell it
+pub spelled-fields : (l : Literal) → spelled (kind l) (tagField l) (atomField l) ≡ Valid l
+unfolding spelled kind tagField atomField signedAtom negatedKind
+spelled-fields (Signed (Positive a)) = refl
+spelled-fields (Signed (Negative a)) = refl
+spelled-fields (Defeated t (Positive a)) = refl
+spelled-fields (Defeated t (Negative a)) = refl
+spelled-fields (Derived t (Positive a)) = refl
+spelled-fields (Derived t (Negative a)) = refl
+spelled-fields (RuleDefeated n) = refl
+
+-- three fields are those of a literal
+pub record Fields (k t a : ℕ) (l : Literal) : Type 0 where
+  pub of-kind : k ≡ kind l
+  pub of-tag : t ≡ tagField l
+  pub of-atom : a ≡ atomField l
+
+-- what is spelled is one literal
+valid-injective : {l m : Literal} → Valid l ≡ Valid m → l ≡ m
+valid-injective e = cc
+
+-- or none
+never-valid : {l : Literal} → Wrong ≡ Valid l → ⊥
+never-valid e = let z : _≡_ {A = ℕ} 0 1 = cc in omega (arith, z)
+
+-- two literals of the same fields are one
+pub fields-injective : (l m : Literal) → Fields (kind l) (tagField l) (atomField l) m → l ≡ m
+fields-injective l m f =
+    valid-injective (sym (spelled-fields l) ∙ rw (f .of-kind, f .of-tag, f .of-atom) (spelled-fields m))
+
+-- a literal's fields are those of the literal that it is
+fields-valid : (m l : Literal) → Valid m ≡ Valid l → Fields (kind m) (tagField m) (atomField m) l
+fields-valid m l e =
+    let p = valid-injective e in
+    record { of-kind = ap kind p; of-tag = ap tagField p; of-atom = ap atomField p }
+
+-- the same where the tag field has to be 0
+fields-untagged :
+    (t : ℕ) (m l : Literal) →
+    tagField m ≡ 0 →
+    cond (eqb t 0) (Valid m) Wrong ≡ Valid l →
+    Fields (kind m) t (atomField m) l
+fields-untagged t m l h e = go (eqb t 0) refl e
+  where
+    go : (b : Bool) → eqb t 0 ≡ b → cond b (Valid m) Wrong ≡ Valid l → Fields (kind m) t (atomField m) l
+    go true q e = rw (eqb-true t 0 q, ← h) (fields-valid m l e)
+    go false q e = absurd (never-valid e)
+
+-- no literal has a kind above 6
+spelled-above : (k t a : ℕ) → 6 < k → spelled k t a ≡ Wrong
+unfolding spelled
+spelled-above k t a h =
+    simp (lt-leb k 1 (omega arith), lt-leb k 3 (omega arith), lt-leb k 5 (omega arith), ne-eqb k 6 (omega arith))
+
+-- what is spelled has the fields that spell it
+pub fields-spelled : (k t a : ℕ) (l : Literal) → spelled k t a ≡ Valid l → Fields k t a l
+unfolding spelled kind tagField atomField signedAtom negatedKind
+fields-spelled zero t a l e = fields-untagged t (Signed (Positive (record { 0 = a }))) l refl e
+fields-spelled (suc zero) t a l e = fields-untagged t (Signed (Negative (record { 0 = a }))) l refl e
+fields-spelled (suc (suc zero)) t a l e =
+    fields-valid (Defeated (record { 0 = t }) (Positive (record { 0 = a }))) l e
+fields-spelled (suc (suc (suc zero))) t a l e =
+    fields-valid (Defeated (record { 0 = t }) (Negative (record { 0 = a }))) l e
+fields-spelled (suc (suc (suc (suc zero)))) t a l e =
+    fields-valid (Derived (record { 0 = t }) (Positive (record { 0 = a }))) l e
+fields-spelled (suc (suc (suc (suc (suc zero))))) t a l e =
+    fields-valid (Derived (record { 0 = t }) (Negative (record { 0 = a }))) l e
+fields-spelled (suc (suc (suc (suc (suc (suc zero)))))) t a l e =
+    fields-untagged t (RuleDefeated (record { 0 = a })) l refl e
+fields-spelled (suc (suc (suc (suc (suc (suc (suc k))))))) t a l e =
+    absurd (never-valid (sym (spelled-above (suc (suc (suc (suc (suc (suc (suc k))))))) t a (omega arith)) ∙ e))
+
+-- five bytes are the fields that they spell
+pub take-five :
+    (bs : List ℕ) →
+    Bytes bs →
+    5 ≤ length bs →
+    take 5 bs ≡ getD bs 0 0 ∷ (twoBytes (numberAt bs 1) ++ twoBytes (numberAt bs 3))
+take-five [] h n = absurd (omega arith)
+take-five (a ∷ []) h n = absurd (omega arith)
+take-five (a ∷ b ∷ []) h n = absurd (omega arith)
+take-five (a ∷ b ∷ c ∷ []) h n = absurd (omega arith)
+take-five (a ∷ b ∷ c ∷ d ∷ []) h n = absurd (omega arith)
+take-five (a ∷ b ∷ c ∷ d ∷ e ∷ bs) h n =
+    ap₂ (λ (x y : List ℕ). a ∷ (x ++ y)) (sym (twoBytes-number b c (h 2))) (sym (twoBytes-number d e (h 4)))
+
+-- a literal's bytes spell it, whatever stands behind them
+spelled-encoded :
+    (l : Literal) (rest : List ℕ) →
+    spelled (getD (encoded l ++ rest) 0 0) (numberAt (encoded l ++ rest) 1) (numberAt (encoded l ++ rest) 3) ≡ Valid l
+unfolding encoded
+spelled-encoded l rest = rw (number-twoBytes (tagField l), number-twoBytes (atomField l)) (spelled-fields l)
+
+-- no two literals have the same bytes
+pub encoded-injective : (l m : Literal) → encoded l ≡ encoded m → l ≡ m
+encoded-injective l m e =
+    valid-injective (sym (spelled-encoded l []) ∙ rw e (spelled-encoded m []))
+
+-- what is in range is at most the largest value
+in-range : (most n : ℕ) → T (inRange most n) → n ≤ most
+in-range most n h = leb→le n most (and-r (leb 1 n) (leb n most) h)
+
+module _ (F : Limits) where
+  -- decoding looks at five bytes
+  pub decoded-take : (bs : List ℕ) → decoded F (take 5 bs) ≡ decoded F bs
+  unfolding decoded
+  decoded-take bs =
+      rw (
+        getD-take 5 bs 0 0 (omega arith),
+        getD-take 5 bs 1 0 (omega arith),
+        getD-take 5 bs 2 0 (omega arith),
+        getD-take 5 bs 3 0 (omega arith),
+        getD-take 5 bs 4 0 (omega arith),
+      )
+
+  -- a literal that the form takes is decoded from its bytes
+  pub decoded-encoded : (l : Literal) (rest : List ℕ) → T (takes F l) → decoded F (encoded l ++ rest) ≡ Valid l
+  unfolding decoded within
+  decoded-encoded l rest h = rw (spelled-encoded l rest, is-true (takes F l) h)
+
+  -- what is left of a spelled literal by the limits was spelled, and the form takes it
+  valid-within : (d : Decoded) (l : Literal) → within F d ≡ Valid l → (d ≡ Valid l) × T (takes F l)
+  unfolding within
+  valid-within (Valid m) l e = go (takes F m) refl e
+    where
+      go : (b : Bool) → takes F m ≡ b → cond b (Valid m) Wrong ≡ Valid l → (Valid m ≡ Valid l) × T (takes F l)
+      go true q e = (e, rw (← valid-injective e) (rw q tt))
+      go false q e = absurd (never-valid e)
+  valid-within Wrong l e = absurd (never-valid e)
+
+  -- the first byte of what is decoded to a literal is its kind
+  pub decoded-kind : (bs : List ℕ) (l : Literal) → decoded F bs ≡ Valid l → getD bs 0 0 ≡ kind l
+  unfolding decoded
+  decoded-kind bs l e =
+      let v = valid-within (spelled (getD bs 0 0) (numberAt bs 1) (numberAt bs 3)) l e in
+      fields-spelled (getD bs 0 0) (numberAt bs 1) (numberAt bs 3) l (v .0) .of-kind
+
+  -- bytes that are decoded to a literal are its bytes, and the form takes it
+  pub encoded-decoded :
+      (bs : List ℕ) (l : Literal) →
+      Bytes bs →
+      5 ≤ length bs →
+      decoded F bs ≡ Valid l →
+      (take 5 bs ≡ encoded l) × T (takes F l)
+  unfolding decoded encoded
+  encoded-decoded bs l h n e =
+      let v = valid-within (spelled (getD bs 0 0) (numberAt bs 1) (numberAt bs 3)) l e in
+      let f = fields-spelled (getD bs 0 0) (numberAt bs 1) (numberAt bs 3) l (v .0) in
+      (take-five bs h n ∙ rw (f .of-kind, f .of-tag, f .of-atom), v .1)
+
+  -- decoding gives a literal exactly where the bytes are its own and the form takes it
+  pub decoded-iff :
+      (bs : List ℕ) (l : Literal) →
+      Bytes bs →
+      5 ≤ length bs →
+      (decoded F bs ≡ Valid l) ↔ ((take 5 bs ≡ encoded l) × T (takes F l))
+  decoded-iff bs l h n = (
+    encoded-decoded bs l h n,
+    λ p.
+        ap (decoded F) (sym (take-append-drop 5 bs)) ∙ rw (p .0) (decoded-encoded l (drop 5 bs) (p .1)),
+  )
+
+  -- the tag and the atom of a mark that the form takes
+  mark-fields :
+      (k t a : ℕ) →
+      T (leb k (F .kinds) && inRange (F .tags) t && inRange (F .atoms) a) →
+      (t ≤ F .tags) × (a ≤ F .atoms)
+  mark-fields k t a h =
+      let tagged = and-l (leb k (F .kinds) && inRange (F .tags) t) (inRange (F .atoms) a) h in (
+        in-range (F .tags) t (and-r (leb k (F .kinds)) (inRange (F .tags) t) tagged),
+        in-range (F .atoms) a (and-r (leb k (F .kinds) && inRange (F .tags) t) (inRange (F .atoms) a) h),
+      )
+
+  -- the tag of a literal that the form takes
+  pub takes-tag : (l : Literal) → T (takes F l) → tagField l ≤ F .tags
+  unfolding takes tagField
+  takes-tag (Signed a) h = omega arith
+  takes-tag (Defeated t a) h = mark-fields 3 (t .0) (atomNumber a) h .0
+  takes-tag (Derived t a) h = mark-fields 5 (t .0) (atomNumber a) h .0
+  takes-tag (RuleDefeated n) h = omega arith
+
+  -- its atom or rule number
+  pub takes-atom : (l : Literal) → T (takes F l) → atomField l ≤ max (F .atoms) (F .numbers)
+  unfolding takes atomField
+  takes-atom (Signed a) h = omega (arith, in-range (F .atoms) (atomNumber a) h)
+  takes-atom (Defeated t a) h = omega (arith, mark-fields 3 (t .0) (atomNumber a) h)
+  takes-atom (Derived t a) h = omega (arith, mark-fields 5 (t .0) (atomNumber a) h)
+  takes-atom (RuleDefeated n) h =
+      omega (arith, in-range (F .numbers) (n .0) (and-r (leb 6 (F .kinds)) (inRange (F .numbers) (n .0)) h))
+
+  -- the fields of a literal that the form takes fit two bytes where the form's figures do
+  pub takes-fields :
+      F .tags < 65536 →
+      F .atoms < 65536 →
+      F .numbers < 65536 →
+      (l : Literal) →
+      T (takes F l) →
+      (tagField l < 65536) × (atomField l < 65536)
+  takes-fields ht ha hn l h = (omega (arith, takes-tag l h), omega (arith, takes-atom l h))

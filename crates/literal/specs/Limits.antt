@@ -1,0 +1,39 @@
+-- Each form's row of limits (01, "Source form and plain form"), and the largest set that is checked.
+-- Every other definition takes a `Limits` and names no number of this table.
+-- Assumes nothing.
+use mathlib.Core.Bool.{true, false}
+use Rattle.literal.specs.declared.Limits.{Limits}
+
+unfoldable pub source : Limits
+source =
+    record {
+      length = 63236;
+      rules = 256;
+      heads = 16;
+      positives = 16;
+      nafs = 16;
+      defeasible = true;
+      kinds = 3;
+      atoms = 500;
+      tags = 200;
+      numbers = 256;
+      literals = 1000;
+      checked = 64;
+    }
+
+unfoldable pub plain : Limits
+plain =
+    record {
+      length = 317444;
+      rules = 12800;
+      heads = 16;
+      positives = 16;
+      nafs = 17;
+      defeasible = false;
+      kinds = 6;
+      atoms = 500;
+      tags = 200;
+      numbers = 256;
+      literals = 5352;
+      checked = 64;
+    }

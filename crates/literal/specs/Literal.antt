@@ -1,0 +1,92 @@
+-- A literal and its five bytes (01, "Records": kind, tag, atom), in either form.
+-- In order: a literal's three fields and its bytes; the literals that a form takes; what five bytes spell in a form;
+-- opposite literals. Not here: the order of literals (`Order`), the forms' figures (`Limits`).
+-- Assumes nothing.
+use Prim.Native.Nat.{ℕ}
+use mathlib.Core.Bool.{Bool, true, false, cond, _&&_, _||_}
+use mathlib.Core.List.{List, _∷_, _++_}
+use lib.Dec.{leb, eqb}
+use lib.ListN.{getD}
+use Rattle.buffer.specs.Bytes.{twoBytes, numberAt}
+use Rattle.literal.specs.declared.Atom.{Atom}
+use Rattle.literal.specs.declared.Limits.{Limits}
+use Rattle.literal.specs.declared.SignedAtom.{SignedAtom}
+use Rattle.literal.specs.declared.SignedAtom.the-variants.{Positive, Negative}
+use Rattle.literal.specs.declared.Literal.{Literal}
+use Rattle.literal.specs.declared.Literal.the-variants.{Signed, Defeated, Derived, RuleDefeated}
+use Rattle.literal.specs.declared.Decoded.{Decoded}
+use Rattle.literal.specs.declared.Decoded.the-variants.{Valid, Wrong}
+
+-- the number of the atom under the sign
+abbrev pub atomNumber : SignedAtom → ℕ
+atomNumber (Positive a) = a .0
+atomNumber (Negative a) = a .0
+
+-- the first field
+unfoldable pub kind : Literal → ℕ
+kind (Signed (Positive a)) = 0
+kind (Signed (Negative a)) = 1
+kind (Defeated t (Positive a)) = 2
+kind (Defeated t (Negative a)) = 3
+kind (Derived t (Positive a)) = 4
+kind (Derived t (Negative a)) = 5
+kind (RuleDefeated n) = 6
+
+-- the second field: 0 where no tag is due
+unfoldable pub tagField : Literal → ℕ
+tagField (Signed a) = 0
+tagField (Defeated t a) = t .0
+tagField (Derived t a) = t .0
+tagField (RuleDefeated n) = 0
+
+-- the third field: the atom, or the number of the rule that is defeated
+unfoldable pub atomField : Literal → ℕ
+atomField (Signed a) = atomNumber a
+atomField (Defeated t a) = atomNumber a
+atomField (Derived t a) = atomNumber a
+atomField (RuleDefeated n) = n .0
+
+-- the five bytes of a literal
+unfoldable pub encoded : Literal → List ℕ
+encoded l = kind l ∷ (twoBytes (tagField l) ++ twoBytes (atomField l))
+
+-- the kinds that carry a sign are negated where they are odd
+unfoldable pub negatedKind : ℕ → Bool
+negatedKind k = eqb k 1 || eqb k 3 || eqb k 5
+
+-- from 1 to a largest value
+abbrev pub inRange : ℕ → ℕ → Bool
+inRange most n = leb 1 n && leb n most
+
+-- the form takes this literal: its kind, its tag and its atom or rule number are the form's
+unfoldable pub takes : Limits → Literal → Bool
+takes F (Signed a) = inRange (F .atoms) (atomNumber a)
+takes F (Defeated t a) = leb 3 (F .kinds) && inRange (F .tags) (t .0) && inRange (F .atoms) (atomNumber a)
+takes F (Derived t a) = leb 5 (F .kinds) && inRange (F .tags) (t .0) && inRange (F .atoms) (atomNumber a)
+takes F (RuleDefeated n) = leb 6 (F .kinds) && inRange (F .numbers) (n .0)
+
+-- an atom with the sign of a kind
+unfoldable pub signedAtom : ℕ → ℕ → SignedAtom
+signedAtom k a = cond (negatedKind k) (Negative (record { 0 = a })) (Positive (record { 0 = a }))
+
+-- the literal of three fields: a kind above 6, and a tag where 0 is due, spell none
+unfoldable pub spelled : ℕ → ℕ → ℕ → Decoded
+spelled k t a =
+    cond (leb k 1) (cond (eqb t 0) (Valid (Signed (signedAtom k a))) Wrong)
+    (cond (leb k 3) (Valid (Defeated (record { 0 = t }) (signedAtom k a)))
+    (cond (leb k 5) (Valid (Derived (record { 0 = t }) (signedAtom k a)))
+    (cond (eqb k 6) (cond (eqb t 0) (Valid (RuleDefeated (record { 0 = a }))) Wrong) Wrong)))
+
+-- a literal that the form does not take is wrong
+unfoldable pub within : Limits → Decoded → Decoded
+within F (Valid l) = cond (takes F l) (Valid l) Wrong
+within F Wrong = Wrong
+
+-- what the first five bytes of bs spell in a form
+unfoldable pub decoded : Limits → List ℕ → Decoded
+decoded F bs = within F (spelled (getD bs 0 0) (numberAt bs 1) (numberAt bs 3))
+
+-- an atom and its explicit negation are opposite; marks have no opposite
+unfoldable pub opposite : SignedAtom → SignedAtom
+opposite (Positive a) = Negative a
+opposite (Negative a) = Positive a

@@ -1,0 +1,122 @@
+// The two forms of programs. Each owns its row of limits.
+
+use crate::Decoded;
+use crate::Limits;
+use crate::code;
+ghost use mathlib.Core.Path.{_≡_};
+ghost use Prim.Native.Nat.{_≤_};
+ghost use lib.ListN.{length};
+ghost use Rattle.literal.specs.Limits.{plain, source};
+ghost use Rattle.literal.specs.Literal.{decoded};
+
+// Programs with defeasible rules.
+pub struct Source {}
+
+impl Source {
+    pub const LENGTH: usize = 63236;
+
+    pub const RULES: usize = 256;
+
+    pub const HEADS: usize = 16;
+
+    pub const POSITIVES: usize = 16;
+
+    pub const NAFS: usize = 16;
+
+    pub const DEFEASIBLE: bool = true;
+
+    pub const KINDS: u8 = 3;
+
+    pub const ATOMS: u16 = 500;
+
+    pub const TAGS: u16 = 200;
+
+    pub const NUMBERS: u16 = 256;
+
+    pub const LITERALS: usize = 1000;
+
+    pub const CHECKED: usize = 64;
+
+    pub fn limits() -> Limits
+        ensures { λ r. ⌜ r ≡ source ⌝ }
+    {
+        Limits {
+            length: Self::LENGTH,
+            rules: Self::RULES,
+            heads: Self::HEADS,
+            positives: Self::POSITIVES,
+            nafs: Self::NAFS,
+            defeasible: Self::DEFEASIBLE,
+            kinds: Self::KINDS,
+            atoms: Self::ATOMS,
+            tags: Self::TAGS,
+            numbers: Self::NUMBERS,
+            literals: Self::LITERALS,
+            checked: Self::CHECKED,
+        }
+    }
+
+    // What the first five bytes of `s` spell in this form.
+    pub fn decode(s: &[u8]) -> Decoded
+        requires { ⌜ 5 ≤ length (now s) ⌝ }
+        ensures { λ r. ⌜ r ≡ decoded source (now (s .entry)) ⌝ }
+    {
+        code::decode(Self::limits(), s)
+    }
+}
+
+// Programs of strict rules alone: translations and quotients.
+pub struct Plain {}
+
+impl Plain {
+    pub const LENGTH: usize = 317444;
+
+    pub const RULES: usize = 12800;
+
+    pub const HEADS: usize = 16;
+
+    pub const POSITIVES: usize = 16;
+
+    pub const NAFS: usize = 17;
+
+    pub const DEFEASIBLE: bool = false;
+
+    pub const KINDS: u8 = 6;
+
+    pub const ATOMS: u16 = 500;
+
+    pub const TAGS: u16 = 200;
+
+    pub const NUMBERS: u16 = 256;
+
+    pub const LITERALS: usize = 5352;
+
+    pub const CHECKED: usize = 64;
+
+    pub fn limits() -> Limits
+        ensures { λ r. ⌜ r ≡ plain ⌝ }
+    {
+        Limits {
+            length: Self::LENGTH,
+            rules: Self::RULES,
+            heads: Self::HEADS,
+            positives: Self::POSITIVES,
+            nafs: Self::NAFS,
+            defeasible: Self::DEFEASIBLE,
+            kinds: Self::KINDS,
+            atoms: Self::ATOMS,
+            tags: Self::TAGS,
+            numbers: Self::NUMBERS,
+            literals: Self::LITERALS,
+            checked: Self::CHECKED,
+        }
+    }
+
+    // What the first five bytes of `s` spell in this form.
+    pub fn decode(s: &[u8]) -> Decoded
+        requires { ⌜ 5 ≤ length (now s) ⌝ }
+        ensures { λ r. ⌜ r ≡ decoded plain (now (s .entry)) ⌝ }
+    {
+        code::decode(Self::limits(), s)
+    }
+}

@@ -1,0 +1,62 @@
+-- Laws of the layout: lengths, and the bytes of runs of literals. Assumes nothing.
+use Prim.Native.Nat.{ℕ, suc, _+_, _*_, _≤_}
+use native.Mathlib.Omega.{arith}
+use mathlib.Core.Path.{_≡_, refl, sym, _∙_, ap}
+use mathlib.Core.List.{List, [], _∷_, _++_, map, append-assoc}
+use lib.ListN.{length, getD, take, drop, length-append, length-map}
+use Rattle.literal.specs.declared.Literal.{Literal}
+use Rattle.literal.specs.declared.Literal.the-variants.{Signed}
+use Rattle.literal.specs.Literal.{encoded}
+use Rattle.literal.proofs.Laws.Literal.{length-encoded}
+use Rattle.semantics.specs.Rule.{Rule, strict, defeasible, Program}
+use Rattle.semantics.specs.Translation.{recordLength, recordsLength, programLength}
+use Rattle.record.specs.Layout.{encodedLiterals, ruleRecord, encodedRule, encodedRules, encodedEnd, encodedProgram}
+
+pub encoded-literals-append : (ls ms : List Literal) → encodedLiterals (ls ++ ms) ≡ encodedLiterals ls ++ encodedLiterals ms
+unfolding encodedLiterals
+encoded-literals-append [] ms = refl
+encoded-literals-append (l ∷ ls) ms =
+    ap (λ (bs : List ℕ). encoded l ++ bs) (encoded-literals-append ls ms) ∙ sym (append-assoc (encoded l) (encodedLiterals ls) (encodedLiterals ms))
+
+-- five bytes for each literal
+pub length-encoded-literals : (ls : List Literal) → length (encodedLiterals ls) ≡ 5 * length ls
+unfolding encodedLiterals
+length-encoded-literals [] = refl
+length-encoded-literals (l ∷ ls) =
+    length-append (encoded l) (encodedLiterals ls) ∙ omega (arith, length-encoded l, length-encoded-literals ls)
+
+length-rule-record : (letter tag : ℕ) (h b c : List Literal) → length (ruleRecord letter tag h b c) ≡ 7 + 5 * (length h + (length b + length c))
+unfolding ruleRecord
+length-rule-record letter tag h b c =
+    omega (arith, length-encoded-literals (h ++ (b ++ c)), length-append h (b ++ c), length-append b c)
+
+-- a record's bytes are as many as the sum says
+pub length-encoded-rule : (r : Rule) → length (encodedRule r) ≡ recordLength r
+unfolding encodedRule recordLength
+length-encoded-rule (strict h b c) = length-rule-record 0x53 0 h b c
+length-encoded-rule (defeasible t h b c) = length-rule-record 0x44 (t .0) (map Signed h) b c ∙ omega (arith, length-map h Signed)
+
+pub length-encoded-rules : (p : Program) → length (encodedRules p) ≡ recordsLength p
+unfolding encodedRules recordsLength
+length-encoded-rules [] = refl
+length-encoded-rules (r ∷ p) =
+    length-append (encodedRule r) (encodedRules p) ∙ omega (arith, length-encoded-rule r, length-encoded-rules p)
+
+pub length-encoded-program : (p : Program) → length (encodedProgram p) ≡ programLength p
+unfolding encodedProgram programLength encodedEnd
+length-encoded-program p = length-append (encodedRules p) (encodedEnd (length p)) ∙ omega (arith, length-encoded-rules p)
+
+-- a record has a byte at least, so that a program has no more rules than bytes
+record-large : (r : Rule) → 7 ≤ recordLength r
+unfolding recordLength
+record-large (strict h b c) = omega arith
+record-large (defeasible t h b c) = omega arith
+
+rules-below : (p : Program) → length p ≤ recordsLength p
+unfolding recordsLength
+rules-below [] = omega arith
+rules-below (r ∷ p) = omega (arith, record-large r, rules-below p)
+
+pub rules-below-length : (p : Program) → length p ≤ length (encodedProgram p)
+unfolding programLength
+rules-below-length p = omega (arith, length-encoded-program p, rules-below p)

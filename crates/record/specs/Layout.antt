@@ -1,0 +1,51 @@
+-- The layout of records (01, "Records"), and programs as bytes.
+-- In order: literals; a header; a rule's record; the end record; a program; a program within a form's limits.
+-- Not here: A: records (`litset`), R: records (`Refusal`).
+-- Assumes nothing.
+use Prim.Native.Nat.{ℕ}
+use mathlib.Core.Bool.{Bool, _&&_}
+use mathlib.Core.List.{List, [], _∷_, _++_, map}
+use lib.Dec.{leb}
+use lib.ListN.{length}
+use Rattle.buffer.specs.Bytes.{twoBytes}
+use Rattle.literal.specs.declared.Limits.{Limits}
+use Rattle.literal.specs.declared.Literal.{Literal}
+use Rattle.literal.specs.declared.Literal.the-variants.{Signed}
+use Rattle.literal.specs.Literal.{encoded}
+use Rattle.semantics.specs.Rule.{Rule, strict, defeasible, Program}
+use Rattle.semantics.specs.Form.{keepsRules}
+
+-- literals one behind the other
+unfoldable pub encodedLiterals : List Literal → List ℕ
+encodedLiterals [] = []
+encodedLiterals (l ∷ ls) = encoded l ++ encodedLiterals ls
+
+-- the second byte of each mark; the first is the record's letter
+abbrev pub colon : ℕ
+colon = 0x3A
+
+-- a rule's record: letter, tag (2 bytes), head count, positive count, naf count (1 byte each), the literals in that order
+unfoldable pub ruleRecord : ℕ → ℕ → List Literal → List Literal → List Literal → List ℕ
+ruleRecord letter tag h b c =
+    letter ∷ (colon ∷ (twoBytes tag ++ (length h ∷ (length b ∷ (length c ∷ encodedLiterals (h ++ (b ++ c)))))))
+
+-- S: a strict rule, with tag 0; D: a defeasible rule
+unfoldable pub encodedRule : Rule → List ℕ
+encodedRule (strict h b c) = ruleRecord 0x53 0 h b c
+encodedRule (defeasible t h b c) = ruleRecord 0x44 (t .0) (map Signed h) b c
+
+unfoldable pub encodedRules : Program → List ℕ
+encodedRules [] = []
+encodedRules (r ∷ p) = encodedRule r ++ encodedRules p
+
+-- E: the end record: the number of rules (2 bytes)
+unfoldable pub encodedEnd : ℕ → List ℕ
+encodedEnd n = 0x45 ∷ (colon ∷ twoBytes n)
+
+-- a program: its rules' records in order, and the end record
+unfoldable pub encodedProgram : Program → List ℕ
+encodedProgram p = encodedRules p ++ encodedEnd (length p)
+
+-- a program within the form's limits: each count, tag and literal, the number of rules, and the length
+unfoldable pub keeps : Limits → Program → Bool
+keeps F p = keepsRules F p && leb (length (encodedProgram p)) (F .length)

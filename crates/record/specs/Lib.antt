@@ -1,0 +1,5 @@
+pub mod Refusal
+pub mod Result
+pub mod Layout
+pub mod Reading
+pub mod Show

@@ -1,0 +1,78 @@
+// Records and programs: what reading finds in a slice, where rule n lies, and what an operation refuses.
+
+// Why an operation refuses. Document 01's number of each reason is `reasonNumber` of specs/Refusal.antt.
+pub enum Reason {
+    // The slice is longer than the form's programs.
+    TooLong,
+    // Fewer than two bytes are left where a record must begin.
+    MarkCut,
+    // The mark is none of the form's.
+    MarkWrong,
+    // The record ends before its header does.
+    HeaderCut,
+    // One rule too many.
+    TooManyRules,
+    // The tag is out of its range.
+    TagWrong,
+    // A count of literals is over its limit.
+    TooManyLiterals,
+    // The record ends before its literals do.
+    LiteralsCut,
+    // A literal is none of the form's.
+    LiteralWrong,
+    // A defeasible rule has no head, or a defeat mark in it.
+    HeadWrong,
+    // The end record has a wrong number, or bytes behind it.
+    EndWrong,
+    // The output slice is shorter than the result.
+    OutputShort,
+    // The set's mark is wrong, or its slice is not as long as counted.
+    SetWrong,
+    // The set has too many literals.
+    SetTooLarge,
+    // A literal of a set is none of the form's, or not above the one before.
+    MemberWrong,
+    // The program has no rule of this number.
+    NoSuchRule,
+}
+
+pub struct Refusal {
+    pub reason: Reason,
+    // An offset in the slice that is refused.
+    pub place: usize,
+}
+
+// What reading a program answers.
+pub enum Reading {
+    // The number of rules.
+    Rules(usize),
+    Refused(Refusal),
+}
+
+// What an operation that writes a result answers.
+pub enum Written {
+    // The number of bytes written.
+    Length(usize),
+    Refused(Refusal),
+}
+
+// Where a record lies in its slice.
+pub struct Extent {
+    pub start: usize,
+    pub size: usize,
+}
+
+// What showing a rule's record answers.
+pub enum Shown {
+    At(Extent),
+    Refused(Refusal),
+}
+
+// The mark at a record's start.
+pub enum Mark {
+    // S: or D:, the latter of a defeasible rule.
+    RuleMark(bool),
+    EndMark,
+    // None of the form's.
+    NoMark,
+}

@@ -1,0 +1,53 @@
+-- The one-to-one match over two forms' literals: F takes kinds 0 to 3 alone, and G covers F. The limits are parameters.
+-- Assumes nothing.
+use Prim.Native.Nat.{_≤_}
+use mathlib.Core.Path.{_≡_, sym, _∙_, subst}
+use lib.Dec.{T}
+use Rattle.literal.specs.declared.Limits.{Limits}
+use Rattle.literal.specs.declared.Literal.{Literal}
+use Rattle.literal.specs.Literal.{takes}
+use Rattle.semantics.specs.Set.{LiteralSet, all}
+use Rattle.semantics.specs.Rule.{Program, head}
+use Rattle.semantics.specs.Meaning.{AnswerSet}
+use Rattle.semantics.specs.Translation.{translation}
+use Rattle.semantics.specs.Extension.{extension, restriction}
+use Rattle.semantics.specs.Form.{SetOf, keepsRule, keepsRules, sourceRule, SourceSet}
+use Rattle.semantics.specs.Match.{OneSource, Match, FormMatch}
+use Rattle.semantics.proofs.Laws.Tests.{all-mem}
+use Rattle.semantics.proofs.Laws.Extension.{extension-injective, restriction-source}
+use Rattle.semantics.proofs.Laws.Heads.{answer-set-head}
+use Rattle.semantics.proofs.Laws.Form.{keeps-each, keeps-head, takes-source, source-rules, Covers, extension-within}
+use Rattle.semantics.proofs.Match.{extension-iff, extension-restriction}
+
+-- an answer set of a program within a form's limits is a set of the form's literals
+pub answer-set-within : (F : Limits) (p : Program) → T (keepsRules F p) → (s : LiteralSet) → AnswerSet p s → SetOf F s
+answer-set-within F p k s a l y =
+    let w = answer-set-head a l y in
+    all-mem (takes F) (keeps-head F (w .0) (all-mem (keepsRule F) (keeps-each F p k) (w .1))) (w .2)
+
+module _ (F G : Limits) (kinds : F .kinds ≤ 3) (covers : Covers F G) (p : Program) (k : T (keepsRules F p)) where
+  source-set : (s : LiteralSet) → SetOf F s → SourceSet s
+  source-set s within l y = takes-source F kinds l (within l y)
+
+  sources : T (all sourceRule p)
+  sources = source-rules F kinds p (keeps-each F p k)
+
+  restricted : (m : LiteralSet) → AnswerSet (translation p) m → AnswerSet p (restriction m)
+  restricted m a =
+      extension-iff p sources (restriction m) (restriction-source m) .1
+      (subst (AnswerSet (translation p)) (sym (extension-restriction p sources m a)) a)
+
+  pub form-match : FormMatch F G p
+  form-match =
+      record {
+        extends = λ s within. extension-iff p sources s (source-set s within);
+        plain = λ s within. extension-within F G covers p k s (source-set s within) within;
+        returns =
+            λ m within a.
+            record {
+              set = restriction m;
+              within = answer-set-within F p k (restriction m) (restricted m a);
+              extends = extension-restriction p sources m a;
+              only = λ s inside e. extension-injective p s (restriction m) (source-set s inside) (restriction-source m) (e ∙ sym (extension-restriction p sources m a));
+            };
+      }

@@ -1,0 +1,12 @@
+pub mod Tests
+pub mod Set
+pub mod Meaning
+pub mod Position
+pub mod Translation
+pub mod Extension
+pub mod Heads
+pub mod Form
+pub mod Length
+pub mod Part
+pub mod Verdict
+pub mod Within

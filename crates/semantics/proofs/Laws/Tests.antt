@@ -1,0 +1,115 @@
+-- Tests as facts: what `&&`, `||`, `not`, `any` and `all` say of their parts. `T b` says that the test b passes.
+-- In order: connectives; decisions; any and all against membership; of a map and of an append; where two tests agree.
+-- Assumes nothing.
+use mathlib.Core.Path.{_≡_, refl, sym, ap, ap₂, subst}
+use mathlib.Core.Bool.{Bool, true, false, not, _&&_, _||_, or-assoc, and-assoc}
+use mathlib.Core.Logic.{_⊎_, inl, inr}
+use mathlib.Core.List.{List, [], _∷_, _++_, map, List·Memᴰ, List·Memᴰ·head, List·Memᴰ·tail}
+use lib.Dec.{T}
+use Rattle.semantics.specs.Set.{any, all}
+
+-- a conjunction passes where both parts do
+pub both : (a b : Bool) → T a → T b → T (a && b)
+both true b p q = q
+both false b p q = p
+
+pub first : (a b : Bool) → T (a && b) → T a
+first true b t = tt
+first false b t = t
+
+pub second : (a b : Bool) → T (a && b) → T b
+second true b t = t
+second false b t = absurd t
+
+-- a disjunction passes where one part does
+pub left : (a b : Bool) → T a → T (a || b)
+left true b p = tt
+left false b p = absurd p
+
+pub right : (a b : Bool) → T b → T (a || b)
+right true b q = tt
+right false b q = q
+
+pub either : (a b : Bool) → T (a || b) → T a ⊎ T b
+either true b t = inl tt
+either false b t = inr t
+
+-- a test passes or it does not
+pub decide : (b : Bool) → T b ⊎ (T b → ⊥)
+decide true = inl tt
+decide false = inr (λ t. t)
+
+-- the negation of a test
+pub fails : (b : Bool) → T (not b) → T b → ⊥
+fails true p q = p
+fails false p q = q
+
+pub refuted : (b : Bool) → (T b → ⊥) → T (not b)
+refuted true f = f tt
+refuted false f = tt
+
+-- a test as an equation
+pub is-true : (b : Bool) → T b → b ≡ true
+is-true true t = refl
+is-true false t = absurd t
+
+pub is-false : (b : Bool) → (T b → ⊥) → b ≡ false
+is-false true f = absurd (f tt)
+is-false false f = refl
+
+-- tests that pass together are one
+pub same-test : (a b : Bool) → (T a → T b) → (T b → T a) → a ≡ b
+same-test true b f g = sym (is-true b (f tt))
+same-test false b f g = sym (is-false b g)
+
+pub along : {a b : Bool} → a ≡ b → T a → T b
+along e t = subst T e t
+
+module _ {A : Type 0} where
+  -- some element passes
+  pub any-mem : (f : A → Bool) {x : A} {xs : List A} → List·Memᴰ x xs → T (f x) → T (any f xs)
+  any-mem f (List·Memᴰ·head {x} {xs} e) t = left (f x) (any f xs) (subst (λ y. T (f y)) e t)
+  any-mem f (List·Memᴰ·tail {x} {xs} m) t = right (f x) (any f xs) (any-mem f m t)
+
+  pub any-found : (f : A → Bool) (xs : List A) → T (any f xs) → (x : A) × List·Memᴰ x xs × T (f x)
+  any-found f [] t = absurd t
+  any-found f (x ∷ xs) t = go (λ u. any-found f xs u) (either (f x) (any f xs) t)
+    where
+      go : (T (any f xs) → (y : A) × List·Memᴰ y xs × T (f y)) → T (f x) ⊎ T (any f xs) → (y : A) × List·Memᴰ y (x ∷ xs) × T (f y)
+      go below (inl u) = (x, List·Memᴰ·head refl, u)
+      go below (inr u) = let r = below u in (r .0, List·Memᴰ·tail (r .1), r .2)
+
+  -- each element passes
+  pub all-mem : (f : A → Bool) {x : A} {xs : List A} → T (all f xs) → List·Memᴰ x xs → T (f x)
+  all-mem f t (List·Memᴰ·head {x = y} {xs} e) = subst (λ z. T (f z)) (sym e) (first (f y) (all f xs) t)
+  all-mem f t (List·Memᴰ·tail {x = y} {xs} m) = all-mem f (second (f y) (all f xs) t) m
+
+  pub all-intro : (f : A → Bool) (xs : List A) → ((x : A) → List·Memᴰ x xs → T (f x)) → T (all f xs)
+  all-intro f [] h = tt
+  all-intro f (x ∷ xs) h = both (f x) (all f xs) (h x (List·Memᴰ·head refl)) (all-intro f xs (λ y m. h y (List·Memᴰ·tail m)))
+
+  pub any-append : (f : A → Bool) (xs ys : List A) → any f (xs ++ ys) ≡ (any f xs || any f ys)
+  any-append f [] ys = refl
+  any-append f (x ∷ xs) ys = rw (any-append f xs ys) (sym (or-assoc (f x) (any f xs) (any f ys)))
+
+  pub all-append : (f : A → Bool) (xs ys : List A) → all f (xs ++ ys) ≡ (all f xs && all f ys)
+  all-append f [] ys = refl
+  all-append f (x ∷ xs) ys = rw (all-append f xs ys) (sym (and-assoc (f x) (all f xs) (all f ys)))
+
+  -- where two tests agree on a list, so do any and all
+  pub any-agree : {f g : A → Bool} (xs : List A) → ((x : A) → List·Memᴰ x xs → f x ≡ g x) → any f xs ≡ any g xs
+  any-agree [] h = refl
+  any-agree (x ∷ xs) h = ap₂ (λ a b. a || b) (h x (List·Memᴰ·head refl)) (any-agree xs (λ y m. h y (List·Memᴰ·tail m)))
+
+  pub all-agree : {f g : A → Bool} (xs : List A) → ((x : A) → List·Memᴰ x xs → f x ≡ g x) → all f xs ≡ all g xs
+  all-agree [] h = refl
+  all-agree (x ∷ xs) h = ap₂ (λ a b. a && b) (h x (List·Memᴰ·head refl)) (all-agree xs (λ y m. h y (List·Memᴰ·tail m)))
+
+module _ {A B : Type 0} where
+  pub any-map : (f : B → Bool) (g : A → B) (xs : List A) → any f (map g xs) ≡ any (λ x. f (g x)) xs
+  any-map f g [] = refl
+  any-map f g (x ∷ xs) = ap (λ b. f (g x) || b) (any-map f g xs)
+
+  pub all-map : (f : B → Bool) (g : A → B) (xs : List A) → all f (map g xs) ≡ all (λ x. f (g x)) xs
+  all-map f g [] = refl
+  all-map f g (x ∷ xs) = ap (λ b. f (g x) && b) (all-map f g xs)

@@ -1,0 +1,3 @@
+pub mod Laws
+pub mod Match
+pub mod FormMatch

@@ -1,0 +1,31 @@
+-- The filter program (01, "The filter program"): what it writes to standard output for what it reads.
+-- In order: its buffers; what it writes of an outcome; the filter.
+-- Assumes nothing.
+use Prim.Native.Nat.{ℕ, _+_}
+use mathlib.Core.List.{List}
+use lib.ListN.{take, replicate}
+use Rattle.literal.specs.Limits.{source}
+use Rattle.record.specs.declared.Written.the-variants.{Length, Refused}
+use Rattle.record.specs.Refusal.{encodedRefusal}
+use Rattle.record.specs.Result.{Outcome}
+use Rattle.translate.specs.Translate.{translated}
+
+-- one byte above the source limit, so that excess shows as 1; and the bytes that a translation may have
+unfoldable pub inputSize : ℕ
+unfolding source
+inputSize = source .length + 1
+
+abbrev pub outputSize : ℕ
+outputSize = 65536
+
+-- the result's bytes, or an R: record
+unfoldable pub printed : Outcome → List ℕ
+printed o =
+    elim (o .answer) [
+      | Length n ↦ take n (o .buffer)
+      | Refused x ↦ encodedRefusal x
+    ]
+
+-- standard output for standard input
+unfoldable pub filtered : List ℕ → List ℕ
+filtered input = printed (translated source (take inputSize input) (replicate outputSize 0))

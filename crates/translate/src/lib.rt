@@ -1,0 +1,1 @@
+// Translating a source program into a plain one, and what the filter program writes.
