@@ -13,7 +13,7 @@ use Rattle.semantics.specs.Extension.{defeatedRule}
 use Rattle.semantics.specs.Form.{keepsCounts}
 use Rattle.semantics.specs.Verdict.{opposed, clashFrom, brokenFrom, orElse, withLiteral, firstSubset, smallerModel, finding}
 use Rattle.semantics.proofs.Laws.Within.{exactly, exactly-within}
-use Rattle.record.specs.Refusal.{reasonNumber, shifted, encodedRefusal}
+use Rattle.record.specs.Refusal.{shifted, encodedRefusal}
 use Rattle.record.specs.Result.{andThen, refuseIf, delivered}
 use Rattle.record.specs.Layout.{encodedLiterals, ruleRecord, encodedRule, encodedRules, encodedEnd, encodedProgram}
 use Rattle.record.specs.Reading.{literalsAt, optionsOf, defeasibleRule, ruleOf, tagRight, bodyAt, ruleAt, endAt, marked, pickMark, markAt, markedRecord, recordAt, rulesFrom, parsed}
@@ -31,7 +31,7 @@ exactly-four = tt
 
 -- M1 to M9
 pub examples-hold : AllSay examples
-unfolding Says examples write source plain kind tagField atomField encoded negatedKind takes signedAtom spelled within decoded opposite bytesBefore key before undefeated unlessEmpty remainder withRemainder quotient holds satisfied models choice allDefeated holdsIfDerived derivedIfHolds neverBoth option options translatedRule translationFrom translation defeatedRule keepsCounts opposed clashFrom brokenFrom orElse withLiteral firstSubset smallerModel finding reasonNumber shifted encodedRefusal andThen refuseIf delivered encodedLiterals ruleRecord encodedRule encodedRules encodedEnd encodedProgram literalsAt optionsOf defeasibleRule ruleOf tagRight bodyAt ruleAt endAt marked pickMark markAt markedRecord recordAt rulesFrom parsed encodedSet membersAt setShape parsedSet translatedBytes translated inputSize printed filtered derivedMarks ruleMarks marksFrom inserted sorted extensionList extensionBytes extended found verdictOf witness checkedOf checked
+unfolding Says examples write source plain kind tagField atomField encoded negatedKind takes signedAtom spelled within decoded opposite bytesBefore key before undefeated unlessEmpty remainder withRemainder quotient holds satisfied models choice allDefeated holdsIfDerived derivedIfHolds neverBoth option options translatedRule translationFrom translation defeatedRule keepsCounts opposed clashFrom brokenFrom orElse withLiteral firstSubset smallerModel finding shifted encodedRefusal andThen refuseIf delivered encodedLiterals ruleRecord encodedRule encodedRules encodedEnd encodedProgram literalsAt optionsOf defeasibleRule ruleOf tagRight bodyAt ruleAt endAt marked pickMark markAt markedRecord recordAt rulesFrom parsed encodedSet membersAt setShape parsedSet translatedBytes translated inputSize printed filtered derivedMarks ruleMarks marksFrom inserted sorted extensionList extensionBytes extended found verdictOf witness checkedOf checked
 examples-hold = (
   refl,
   (

@@ -1,1 +1,3 @@
+pub mod Words
+pub mod Claims
 pub mod Examples

@@ -1,5 +1,6 @@
 -- A literal and its five bytes (01, "Records": kind, tag, atom), in either form.
--- In order: a literal's three fields and its bytes; the literals that a form takes; what five bytes spell in a form;
+-- In order: a literal's three fields and its bytes; the literals that a form takes; what five bytes spell in a form, and
+-- whether they spell anything;
 -- opposite literals. Not here: the order of literals (`Order`), the forms' figures (`Limits`).
 -- Assumes nothing.
 use Prim.Native.Nat.{ℕ}
@@ -85,6 +86,19 @@ within F Wrong = Wrong
 -- what the first five bytes of bs spell in a form
 unfoldable pub decoded : Limits → List ℕ → Decoded
 decoded F bs = within F (spelled (getD bs 0 0) (numberAt bs 1) (numberAt bs 3))
+
+-- five bytes are right in a form where they spell a literal
+unfoldable pub isValid : Decoded → Bool
+isValid (Valid l) = true
+isValid Wrong = false
+
+-- the same of three fields: each kind's tag and atom or rule number in their ranges
+unfoldable pub fieldsRight : Limits → ℕ → ℕ → ℕ → Bool
+fieldsRight F k t a =
+    cond (leb k 1) (eqb t 0 && inRange (F .atoms) a)
+    (cond (leb k 3) (leb 3 (F .kinds) && inRange (F .tags) t && inRange (F .atoms) a)
+    (cond (leb k 5) (leb 5 (F .kinds) && inRange (F .tags) t && inRange (F .atoms) a)
+    (cond (eqb k 6) (leb 6 (F .kinds) && inRange (F .numbers) a && eqb t 0) false)))
 
 -- an atom and its explicit negation are opposite; marks have no opposite
 unfoldable pub opposite : SignedAtom → SignedAtom

@@ -16,7 +16,7 @@ ghost use Prim.Native.Nat.{_+_, _≤_};
 ghost use lib.Dec.{leb, eqb};
 ghost use lib.ListN.{length};
 ghost use Rattle.buffer.specs.Write.{write};
-ghost use Rattle.literal.specs.Literal.{atomField, atomNumber, decoded, encoded, inRange, kind, negatedKind, signedAtom, spelled, tagField, takes};
+ghost use Rattle.literal.specs.Literal.{atomField, atomNumber, decoded, encoded, fieldsRight, inRange, isValid, kind, negatedKind, signedAtom, spelled, tagField, takes};
 
 // Kinds 1, 3 and 5 are those of negated atoms.
 pub fn is_negated(kind: u8) -> bool
@@ -84,14 +84,7 @@ pub fn number_of(a: SignedAtom) -> u16
 fn is_mark_taken(lim: Limits, kind: u8, t: Tag, a: SignedAtom) -> bool
     ensures { λ r. ⌜ r ≡ (leb kind (lim .kinds) && inRange (lim .tags) (t .0) && inRange (lim .atoms) (atomNumber a)) ⌝ }
 {
-    if lim.kinds < kind {
-        return false;
-    }
-    if is_in_range(lim.tags, t.0) {
-        is_in_range(lim.atoms, number_of(a))
-    } else {
-        false
-    }
+    is_mark_right(lim, kind, t.0, number_of(a))
 }
 
 // Whether the form takes the literal.
@@ -126,6 +119,58 @@ pub fn decode(lim: Limits, s: &[u8]) -> Decoded
     } else {
         Decoded::Wrong
     }
+}
+
+// Whether a tag and an atom are in their ranges, in a form that takes marks up to this kind.
+fn is_mark_right(lim: Limits, kind: u8, tag: u16, atom: u16) -> bool
+    ensures { λ r. ⌜ r ≡ (leb kind (lim .kinds) && inRange (lim .tags) tag && inRange (lim .atoms) atom) ⌝ }
+{
+    if lim.kinds < kind {
+        return false;
+    }
+    if is_in_range(lim.tags, tag) {
+        is_in_range(lim.atoms, atom)
+    } else {
+        false
+    }
+}
+
+// Whether three fields are those of a literal of the form: what reading asks, with no literal made.
+fn are_fields_right(lim: Limits, kind: u8, tag: u16, atom: u16) -> bool
+    ensures { λ r. ⌜ r ≡ fieldsRight lim kind tag atom ⌝ }
+{
+    match kind {
+        0..=1 => {
+            if tag == 0 {
+                is_in_range(lim.atoms, atom)
+            } else {
+                false
+            }
+        }
+        2..=3 => is_mark_right(lim, 3, tag, atom),
+        4..=5 => is_mark_right(lim, 5, tag, atom),
+        6 => {
+            if lim.kinds < 6 {
+                return false;
+            }
+            if is_in_range(lim.numbers, atom) {
+                tag == 0
+            } else {
+                false
+            }
+        }
+        _ => false,
+    }
+}
+
+// Whether the first five bytes of `s` spell a literal of the form.
+pub fn is_literal(lim: Limits, s: &[u8]) -> bool
+    requires { ⌜ 5 ≤ length (now s) ⌝ }
+    ensures { λ r. ⌜ r ≡ isValid (decoded lim (now (s .entry))) ⌝ }
+{
+    let tag = get_number(s, 1);
+    let atom = get_number(s, 3);
+    are_fields_right(lim, s[0], tag, atom)
 }
 
 // A literal's three fields.

@@ -1,6 +1,16 @@
 pub mod Result
 pub mod Layout
 pub mod Steps
+pub mod Marks
+pub mod Literals
+pub mod Body
+pub mod Header
+pub mod Program
+pub mod Places
+pub mod Walk
 pub mod Sound
 pub mod Complete
 pub mod Reading
+pub mod Shown
+pub mod Bounds
+pub mod Delivered

@@ -3,3 +3,5 @@ pub mod Result
 pub mod Layout
 pub mod Reading
 pub mod Show
+pub mod Code
+pub mod Part

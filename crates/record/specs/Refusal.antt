@@ -8,7 +8,7 @@ use Rattle.record.specs.declared.Reason.the-variants.{TooLong, MarkCut, 
 use Rattle.record.specs.declared.Refusal.{Refusal}
 
 -- the number of each reason, in the order in which an operation tries them
-unfoldable pub reasonNumber : Reason → ℕ
+abbrev pub reasonNumber : Reason → ℕ
 reasonNumber TooLong = 1
 reasonNumber MarkCut = 2
 reasonNumber MarkWrong = 3

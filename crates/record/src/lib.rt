@@ -76,3 +76,21 @@ pub enum Mark {
     // None of the form's.
     NoMark,
 }
+
+// What reading a run of literals finds.
+pub enum Run {
+    Right,
+    Refused(Refusal),
+}
+
+// What reading one record finds. Places are counted from the record's first byte.
+pub enum Step {
+    // A rule's record of so many bytes.
+    Rule(usize),
+    End,
+    Refused(Refusal),
+}
+
+pub mod number;
+pub mod read;
+pub mod show;

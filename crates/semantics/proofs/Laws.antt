@@ -10,3 +10,4 @@ pub mod Length
 pub mod Part
 pub mod Verdict
 pub mod Within
+pub mod Room

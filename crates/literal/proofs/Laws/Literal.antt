@@ -2,7 +2,7 @@
 -- In order: a literal's fields and bytes; what three fields spell, and the fields of what is spelled; five bytes and the
 -- fields in them; decoding in a form, from bytes to a literal and back; the fields' ranges in a form. Assumes nothing.
 use Prim.Native.Nat.{ℕ, zero, suc, _+_, _≤_, _<_, max}
-use mathlib.Core.Bool.{Bool, true, false, _&&_, cond}
+use mathlib.Core.Bool.{Bool, true, false, _&&_, cond, and-true, and-false, true≢false}
 use mathlib.Core.List.{List, [], _∷_, _++_}
 use mathlib.Core.Logic.{_↔_}
 use mathlib.Core.Path.{_≡_, refl, sym, ap, ap₂, _∙_}
@@ -18,13 +18,14 @@ use Rattle.buffer.specs.Write.{write}
 use Rattle.buffer.proofs.Laws.Write.{write-write}
 use Rattle.buffer.proofs.Laws.Bytes.{bytes-cons, bytes-append, bytes-twoBytes, number-twoBytes, twoBytes-number}
 use Rattle.literal.specs.declared.Limits.{Limits}
+use Rattle.literal.specs.declared.SignedAtom.{SignedAtom}
 use Rattle.literal.specs.declared.SignedAtom.the-variants.{Positive, Negative}
 use Rattle.literal.specs.declared.Literal.{Literal}
 use Rattle.literal.specs.declared.Literal.the-variants.{Signed, Defeated, Derived, RuleDefeated}
 use Rattle.literal.specs.declared.Decoded.{Decoded}
 use Rattle.literal.specs.declared.Decoded.the-variants.{Valid, Wrong}
 use Rattle.literal.specs.Literal.{atomNumber, kind, tagField, atomField, encoded, inRange, takes}
-use Rattle.literal.specs.Literal.{negatedKind, signedAtom, spelled, within, decoded}
+use Rattle.literal.specs.Literal.{negatedKind, signedAtom, spelled, within, decoded, isValid, fieldsRight}
 
 -- the largest kind
 pub kind-most : (l : Literal) → kind l ≤ 6
@@ -261,3 +262,63 @@ module _ (F : Limits) where
       T (takes F l) →
       (tagField l < 65536) × (atomField l < 65536)
   takes-fields ht ha hn l h = (omega (arith, takes-tag l h), omega (arith, takes-atom l h))
+
+-- the number under the sign of a kind is the atom
+atom-signed : (k a : ℕ) → atomNumber (signedAtom k a) ≡ a
+unfolding signedAtom
+atom-signed k a = go (negatedKind k)
+  where
+    go : (b : Bool) → atomNumber (cond b (Negative (record { 0 = a })) (Positive (record { 0 = a }))) ≡ a
+    go true = refl
+    go false = refl
+
+-- a literal is right where the form takes it
+valid-taken : (F : Limits) (l : Literal) → isValid (within F (Valid l)) ≡ takes F l
+unfolding isValid within
+valid-taken F l = go (takes F l)
+  where
+    go : (b : Bool) → isValid (cond b (Valid l) Wrong) ≡ b
+    go true = refl
+    go false = refl
+
+-- five bytes spell a literal of the form exactly where their fields are right
+pub valid-fields : (F : Limits) (bs : List ℕ) → isValid (decoded F bs) ≡ fieldsRight F (getD bs 0 0) (numberAt bs 1) (numberAt bs 3)
+unfolding decoded spelled fieldsRight isValid within takes
+valid-fields F bs = go (leb k 1) (leb k 3) (leb k 5) (eqb k 6) (eqb t 0)
+  where
+    k : ℕ
+    k = getD bs 0 0
+
+    t : ℕ
+    t = numberAt bs 1
+
+    a : ℕ
+    a = numberAt bs 3
+
+    s : SignedAtom
+    s = signedAtom k a
+
+    marked : (m : ℕ) → (leb m (F .kinds) && inRange (F .tags) t && inRange (F .atoms) (atomNumber s)) ≡ (leb m (F .kinds) && inRange (F .tags) t && inRange (F .atoms) a)
+    marked m = ap (λ (n : ℕ). leb m (F .kinds) && inRange (F .tags) t && inRange (F .atoms) n) (atom-signed k a)
+
+    go : (x y z w v : Bool)
+        → isValid (within F (cond x (cond v (Valid (Signed s)) Wrong) (cond y (Valid (Defeated (record { 0 = t }) s)) (cond z (Valid (Derived (record { 0 = t }) s)) (cond w (cond v (Valid (RuleDefeated (record { 0 = a }))) Wrong) Wrong)))))
+        ≡ cond x (v && inRange (F .atoms) a) (cond y (leb 3 (F .kinds) && inRange (F .tags) t && inRange (F .atoms) a) (cond z (leb 5 (F .kinds) && inRange (F .tags) t && inRange (F .atoms) a) (cond w (leb 6 (F .kinds) && inRange (F .numbers) a && v) false)))
+    go true y z w true = valid-taken F (Signed s) ∙ ap (inRange (F .atoms)) (atom-signed k a)
+    go true y z w false = refl
+    go false true z w v = valid-taken F (Defeated (record { 0 = t }) s) ∙ marked 3
+    go false false true w v = valid-taken F (Derived (record { 0 = t }) s) ∙ marked 5
+    go false false false true true = valid-taken F (RuleDefeated (record { 0 = a })) ∙ sym (and-true (leb 6 (F .kinds) && inRange (F .numbers) a))
+    go false false false true false = sym (and-false (leb 6 (F .kinds) && inRange (F .numbers) a))
+    go false false false false v = refl
+
+-- what is right is a literal, and what is not right is none
+pub valid-some : (d : Decoded) → isValid d ≡ true → (l : Literal) × (d ≡ Valid l)
+unfolding isValid
+valid-some (Valid l) e = (l, refl)
+valid-some Wrong e = absurd (true≢false (sym e))
+
+pub valid-none : (d : Decoded) → isValid d ≡ false → d ≡ Wrong
+unfolding isValid
+valid-none (Valid l) e = absurd (true≢false e)
+valid-none Wrong e = refl

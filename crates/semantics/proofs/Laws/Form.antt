@@ -122,6 +122,11 @@ module _ (F G : Limits) (covers : Covers F G) where
   unfolding takes
   covers-derived t a y z = marks 5 (omega arith) t a y z
 
+  -- the defeat mark of such an option
+  pub covers-mark : (t : Tag) (a : SignedAtom) → T (inRange (F .tags) (t .0)) → T (takes F (Signed a)) → T (takes G (Defeated t a))
+  unfolding takes
+  covers-mark t a y z = marks 3 (omega arith) t a y z
+
   -- a number of a rule of a program within F's limits
   pub covers-number : (n : ℕ) → 1 ≤ n → n ≤ F .rules → T (takes G (ruleDefeated n))
   unfolding takes

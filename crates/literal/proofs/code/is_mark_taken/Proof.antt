@@ -1,44 +1,17 @@
--- `code::is_mark_taken` meets its contract: each return rewrites by the tests that led there.
+-- `code::is_mark_taken` meets its contract, that of `code::is_mark_right` at the tag and the atom.
 -- Assumes nothing.
-use mathlib.Core.Path.{sym, _∙_}
 use borrow.Author.Needs.{needs}
-use borrow.Author.Tests.{le-leb, lt-leb}
 use Rattle.literal.proofs.code.is_mark_taken.Statement.{statement}
 use Rattle.literal.proofs.code.is_mark_taken.Tie as tie
-
-returns : tie.Need-returns
-returns c = simp (lt-leb _ _ (c .if1 .taken))
-
-is-in-range-requires : tie.Need-is-in-range-requires
-is-in-range-requires c κs = search needs
 
 number-of-requires : tie.Need-number-of-requires
 number-of-requires c κs = search needs
 
-is-in-range-requires-2 : tie.Need-is-in-range-requires-2
-is-in-range-requires-2 c κs = search needs
+is-mark-right-requires : tie.Need-is-mark-right-requires
+is-mark-right-requires c κs = search needs
 
-returns-2 : tie.Need-returns-2
-returns-2 c =
-    let at-tag = c .before .before .before in
-    rw (
-      le-leb _ _ (at-tag .before .if1 .left),
-      sym (at-tag .is-in-range .ensures) ∙ c .before .before .if2 .taken,
-      ← c .before .number-of .ensures,
-    )
-    (c .is-in-range2 .ensures)
-
-returns-3 : tie.Need-returns-3
-returns-3 c =
-    rw (le-leb _ _ (c .before .before .if1 .left), sym (c .before .is-in-range .ensures) ∙ c .if2 .left)
+returns : tie.Need-returns
+returns c = rw (← c .before .number-of .ensures) (c .is-mark-right .ensures)
 
 pub is-mark-taken-spec : {M : Type 1} → statement M
-is-mark-taken-spec =
-    tie.close
-    (tie.spec
-    returns
-    is-in-range-requires
-    number-of-requires
-    is-in-range-requires-2
-    returns-2
-    returns-3)
+is-mark-taken-spec = tie.close (tie.spec number-of-requires is-mark-right-requires returns)

@@ -1,0 +1,94 @@
+//! How fast reading is, beside a plain Rust reader of the same bytes, in one run.
+//! Both are built for release; the ratio is the proved reader's speed over the plain one's.
+
+mod plain_reader;
+
+use plain_reader::{Limits, PLAIN, SOURCE};
+use std::hint::black_box;
+use std::time::Instant;
+
+extern "C" {
+    fn aspda_read_source(p: *const u8, n: usize) -> u64;
+    fn aspda_read_plain(p: *const u8, n: usize) -> u64;
+}
+
+/// A small repeatable generator, so that every run reads the same bytes.
+struct Numbers(u32);
+
+impl Numbers {
+    fn below(&mut self, n: u32) -> u32 {
+        self.0 = self.0.wrapping_mul(1_664_525).wrapping_add(1_013_904_223);
+        (self.0 >> 16) % n
+    }
+}
+
+fn literal(out: &mut Vec<u8>, numbers: &mut Numbers, kinds: u32) {
+    let kind = numbers.below(kinds) as u8;
+    let tag = if (2..=5).contains(&kind) { 1 + numbers.below(200) as u16 } else { 0 };
+    let number = if kind == 6 { 1 + numbers.below(256) as u16 } else { 1 + numbers.below(500) as u16 };
+    out.push(kind);
+    out.extend(tag.to_be_bytes());
+    out.extend(number.to_be_bytes());
+}
+
+/// A program of `counts.len()` rules with these head, positive and naf counts.
+fn program(counts: &[(u8, u8, u8)], defeasible: bool, kinds: u32) -> Vec<u8> {
+    let mut numbers = Numbers(7);
+    let mut out = Vec::new();
+    for (i, &(h, b, c)) in counts.iter().enumerate() {
+        let options = defeasible && i % 2 == 0;
+        out.extend(if options { *b"D:" } else { *b"S:" });
+        out.extend((if options { 1 + numbers.below(200) as u16 } else { 0 }).to_be_bytes());
+        out.extend([h, b, c]);
+        for k in 0..(h as u32 + b as u32 + c as u32) {
+            let head = k < h as u32;
+            literal(&mut out, &mut numbers, if head && options { 2 } else { kinds });
+        }
+    }
+    out.extend(*b"E:");
+    out.extend((counts.len() as u16).to_be_bytes());
+    out
+}
+
+/// The longest source: 256 rules of 16, 16 and 16 literals.
+fn source() -> Vec<u8> {
+    program(&[(16, 16, 16); 256], true, 4)
+}
+
+/// The longest plain program: 12,800 rules of three and four literals.
+fn plain() -> Vec<u8> {
+    let counts: Vec<(u8, u8, u8)> = (0..12_800).map(|i| if i < 7_168 { (1, 2, 1) } else { (1, 1, 1) }).collect();
+    program(&counts, false, 7)
+}
+
+/// Seconds for one call of each: the best of many short batches, taken in turn, so that other work on the machine
+/// weighs least and on both alike.
+fn best(mut ours: impl FnMut() -> u64, mut theirs: impl FnMut() -> u64) -> (f64, f64) {
+    fn batch(call: &mut impl FnMut() -> u64) -> f64 {
+        let started = Instant::now();
+        for _ in 0..10 {
+            black_box(call());
+        }
+        started.elapsed().as_secs_f64() / 10.0
+    }
+    let (mut a, mut b) = (f64::MAX, f64::MAX);
+    for _ in 0..200 {
+        a = a.min(batch(&mut ours));
+        b = b.min(batch(&mut theirs));
+    }
+    (a, b)
+}
+
+fn row(name: &str, bytes: &[u8], limits: &Limits, proved: unsafe extern "C" fn(*const u8, usize) -> u64) {
+    let ours = || unsafe { proved(black_box(bytes).as_ptr(), bytes.len()) };
+    let theirs = || plain_reader::read(black_box(limits), black_box(bytes));
+    assert_eq!(ours(), theirs(), "the two readers disagree on {name}");
+    let (a, b) = best(ours, theirs);
+    let mb = bytes.len() as f64 / 1e6;
+    println!("{name:<14} {:>8} bytes  proved {:>8.1} MB/s  plain Rust {:>8.1} MB/s  ratio {:.2}", bytes.len(), mb / a, mb / b, b / a);
+}
+
+fn main() {
+    row("read source", &source(), &SOURCE, aspda_read_source);
+    row("read plain", &plain(), &PLAIN, aspda_read_plain);
+}

@@ -1,0 +1,114 @@
+//! A careful reader in plain safe Rust, the measure for the proved one: the same tests in the same order, the same word.
+
+pub struct Limits {
+    pub length: usize,
+    pub rules: usize,
+    pub heads: usize,
+    pub positives: usize,
+    pub nafs: usize,
+    pub defeasible: bool,
+    pub kinds: u8,
+    pub atoms: u16,
+    pub tags: u16,
+    pub numbers: u16,
+}
+
+pub const SOURCE: Limits = Limits {
+    length: 63_236,
+    rules: 256,
+    heads: 16,
+    positives: 16,
+    nafs: 16,
+    defeasible: true,
+    kinds: 3,
+    atoms: 500,
+    tags: 200,
+    numbers: 256,
+};
+
+pub const PLAIN: Limits = Limits { length: 317_444, rules: 12_800, nafs: 17, defeasible: false, kinds: 6, ..SOURCE };
+
+fn refusal(number: u64, place: usize) -> u64 {
+    (1 << 63) + (number << 32) + place as u64
+}
+
+fn number(bytes: &[u8]) -> u16 {
+    u16::from_be_bytes([bytes[0], bytes[1]])
+}
+
+fn is_literal(limits: &Limits, bytes: &[u8]) -> bool {
+    let (kind, tag, atom) = (bytes[0], number(&bytes[1..3]), number(&bytes[3..5]));
+    if kind > limits.kinds {
+        return false;
+    }
+    match kind {
+        0..=1 => tag == 0 && (1..=limits.atoms).contains(&atom),
+        2..=5 => (1..=limits.tags).contains(&tag) && (1..=limits.atoms).contains(&atom),
+        _ => tag == 0 && (1..=limits.numbers).contains(&atom),
+    }
+}
+
+/// The length of the rule's record at the start of `part`, or its refusal.
+fn rule(limits: &Limits, options: bool, part: &[u8], held: usize, at: usize) -> Result<usize, u64> {
+    if part.len() < 7 {
+        return Err(refusal(2, at));
+    }
+    if held >= limits.rules {
+        return Err(refusal(4, at));
+    }
+    let tag = number(&part[2..4]);
+    if if options { !(1..=limits.tags).contains(&tag) } else { tag != 0 } {
+        return Err(refusal(6, at));
+    }
+    let (h, b, c) = (part[4] as usize, part[5] as usize, part[6] as usize);
+    if h > limits.heads || b > limits.positives || c > limits.nafs {
+        return Err(refusal(4, at));
+    }
+    let size = 7 + 5 * (h + b + c);
+    if part.len() < size {
+        return Err(refusal(2, at));
+    }
+    for (i, literal) in part[7..size].chunks_exact(5).enumerate() {
+        if !is_literal(limits, literal) {
+            return Err(refusal(5, at + 7 + 5 * i));
+        }
+    }
+    if options && (h == 0 || part[7..7 + 5 * h].chunks_exact(5).any(|literal| literal[0] > 1)) {
+        return Err(refusal(7, at));
+    }
+    Ok(size)
+}
+
+pub fn read(limits: &Limits, bytes: &[u8]) -> u64 {
+    if bytes.len() > limits.length {
+        return refusal(1, 0);
+    }
+    let (mut at, mut held) = (0, 0);
+    loop {
+        let part = &bytes[at..];
+        if part.len() < 2 {
+            return refusal(2, at);
+        }
+        match &part[..2] {
+            b"S:" => match rule(limits, false, part, held, at) {
+                Ok(size) => at += size,
+                Err(word) => return word,
+            },
+            b"D:" if limits.defeasible => match rule(limits, true, part, held, at) {
+                Ok(size) => at += size,
+                Err(word) => return word,
+            },
+            b"E:" => {
+                if part.len() < 4 {
+                    return refusal(2, at);
+                }
+                if number(&part[2..4]) as usize != held || part.len() != 4 {
+                    return refusal(8, at);
+                }
+                return held as u64;
+            }
+            _ => return refusal(3, at),
+        }
+        held += 1;
+    }
+}

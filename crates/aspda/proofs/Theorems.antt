@@ -1,0 +1,121 @@
+-- The claims, each from laws. Assumes nothing.
+use Prim.Native.Nat.{ℕ, _+_, _*_, _≤_}
+use native.Mathlib.Omega.{arith}
+use native.Mathlib.Nat.{zero-add}
+use mathlib.Core.Path.{_≡_, refl, sym, _∙_, ap, subst}
+use mathlib.Core.Bool.{Bool, true, false, _&&_}
+use mathlib.Core.List.{List}
+use lib.Dec.{T, leb, ltb, le→leb}
+use lib.ListN.{length, take, drop}
+use borrow.Author.Tests.{le-ltb}
+use Rattle.buffer.specs.Bytes.{Bytes}
+use Rattle.buffer.specs.Write.{write}
+use Rattle.buffer.proofs.Laws.Write.{take-write, drop-write}
+use Rattle.literal.specs.declared.Limits.{Limits}
+use Rattle.literal.specs.Limits.{source, plain}
+use Rattle.semantics.specs.Rule.{Program}
+use Rattle.semantics.specs.Translation.{translation, programLength, translationLength}
+use Rattle.semantics.specs.Match.{FormMatch}
+use Rattle.semantics.specs.Form.{keepsRules}
+use Rattle.semantics.proofs.Laws.Tests.{both, first}
+use Rattle.semantics.proofs.Laws.Form.{Covers}
+use Rattle.semantics.proofs.Laws.Length.{length-translation, count-translation, thirteenfold}
+use Rattle.semantics.proofs.Laws.Room.{Room, translation-keeps, translation-short}
+use Rattle.semantics.proofs.FormMatch.{form-match}
+use Rattle.record.specs.declared.Written.the-variants.{Length, Refused}
+use Rattle.record.specs.declared.Reason.the-variants.{OutputShort}
+use Rattle.record.specs.Refusal.{refusal}
+use Rattle.record.specs.Result.{Result, accepted, andThen, Outcome, delivered}
+use Rattle.record.specs.Layout.{encodedProgram, keeps}
+use Rattle.record.specs.Reading.{parsed}
+use Rattle.record.proofs.Laws.Layout.{length-encoded-program}
+use Rattle.record.proofs.Laws.Reading.{parsed-sound, parsed-complete, reading-iff}
+use Rattle.record.proofs.Laws.Result.{accepted-and-then}
+use Rattle.record.proofs.Laws.Delivered.{delivered-fits}
+use Rattle.translate.specs.Translate.{translatedBytes, translated}
+use Rattle.aspda.specs.Claims.{Reading, Translates, Translating}
+
+pub reading : Reading
+reading = record { reads-source = reading-iff source; reads-plain = reading-iff plain }
+
+-- the plain form has room for every translation of a source
+plain-covers : Covers source plain
+unfolding source plain
+plain-covers = omega arith
+
+plain-room : Room source plain
+unfolding source plain
+plain-room =
+    record {
+      covers = plain-covers;
+      source-kinds = omega arith;
+      heads = omega arith;
+      positives = omega arith;
+      nafs = omega arith;
+      rules = omega arith;
+      bytes = omega arith;
+    }
+
+module _ (b : List ℕ) (p : Program) (bytes : Bytes b) (read : parsed source b ≡ accepted p) where
+  kept : T (keepsRules source p)
+  unfolding keeps
+  kept = first (keepsRules source p) (leb (length (encodedProgram p)) (source .length)) (parsed-sound source b p bytes read .1)
+
+  result-length : length (encodedProgram (translation p)) ≡ translationLength p
+  result-length = length-encoded-program (translation p) ∙ length-translation p
+
+  read-back : parsed plain (encodedProgram (translation p)) ≡ accepted (translation p)
+  unfolding keeps
+  read-back =
+      parsed-complete plain (translation p)
+      (both (keepsRules plain (translation p)) (leb (length (encodedProgram (translation p))) (plain .length)) (translation-keeps source plain plain-room p kept)
+      (le→leb (length (encodedProgram (translation p))) (plain .length) (omega (arith, result-length, translation-short source plain plain-room p kept))))
+
+  source-length : length b ≡ programLength p
+  source-length = ap length (parsed-sound source b p bytes read .0) ∙ length-encoded-program p
+
+  at-most-thirteenfold : translationLength p ≤ 13 * length b
+  unfolding source
+  at-most-thirteenfold = omega (arith, source-length, thirteenfold source (omega arith) p kept)
+
+  match : FormMatch source plain p
+  unfolding source
+  match = form-match source plain (omega arith) plain-covers p kept
+
+  module _ (out : List ℕ) (fits : translationLength p ≤ length out) where
+    written : translated source b out ≡ record { answer = Length (translationLength p); buffer = write out 0 (encodedProgram (translation p)) }
+    unfolding translated translatedBytes
+    written =
+        ap (λ (r : Result Program). delivered (andThen r (λ q. accepted (encodedProgram (translation q)))) out) read
+        ∙ ap (λ (r : Result (List ℕ)). delivered r out) (accepted-and-then p (λ q. accepted (encodedProgram (translation q))))
+        ∙ delivered-fits (encodedProgram (translation p)) out (omega (arith, result-length))
+        ∙ ap (λ (n : ℕ). record { answer = Length n; buffer = write out 0 (encodedProgram (translation p)) }) result-length
+
+    -- the first bytes are the result, and those behind it are the buffer's
+    front : take (translationLength p) (write out 0 (encodedProgram (translation p))) ≡ encodedProgram (translation p)
+    front =
+        ap (λ (n : ℕ). take n (write out 0 (encodedProgram (translation p)))) (sym (zero-add (length (encodedProgram (translation p))) ∙ result-length))
+        ∙ take-write out 0 (encodedProgram (translation p)) (omega arith)
+
+    rest : drop (translationLength p) (write out 0 (encodedProgram (translation p))) ≡ drop (translationLength p) out
+    rest =
+        let from = zero-add (length (encodedProgram (translation p))) ∙ result-length in
+        ap (λ (n : ℕ). drop n (write out 0 (encodedProgram (translation p)))) (sym from) ∙ drop-write out 0 (encodedProgram (translation p)) (omega arith)
+        ∙ ap (λ (n : ℕ). drop n out) from
+
+    translates : Translates b p out
+    translates =
+        record {
+          answers = ap (λ (o : Outcome). o .answer) written;
+          behind = ap (λ (o : Outcome). drop (translationLength p) (o .buffer)) written ∙ rest;
+          reads-back = ap (λ (o : Outcome). parsed plain (take (translationLength p) (o .buffer))) written ∙ ap (parsed plain) front ∙ read-back;
+        }
+
+pub translating : Translating
+translating =
+    record {
+      translates = translates;
+      thirteenfold = at-most-thirteenfold;
+      rules = λ b p read. count-translation p;
+      matches = match;
+    }

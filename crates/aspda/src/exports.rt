@@ -1,0 +1,45 @@
+// The exported functions. A slice is a pointer and a length; include/aspda.h has them in C's words.
+
+use crate::word::reading_word;
+use crate::word::shown_word;
+use record::read::read_plain;
+use record::read::read_source;
+use record::show::find_plain;
+use record::show::find_source;
+ghost use mathlib.Core.Path.{_≡_};
+ghost use Rattle.literal.specs.Limits.{source, plain};
+ghost use Rattle.record.specs.Reading.{reading};
+ghost use Rattle.record.specs.Show.{shown};
+ghost use Rattle.aspda.specs.Words.{readingWord, shownWord};
+
+// The number of rules of a source, or the refusal.
+#[no_mangle]
+pub extern "C" fn aspda_read_source(s: &[u8]) -> u64
+    ensures { λ r. ⌜ r ≡ readingWord (reading source (now (s .entry))) ⌝ }
+{
+    reading_word(read_source(s))
+}
+
+// The number of rules of a plain program, or the refusal.
+#[no_mangle]
+pub extern "C" fn aspda_read_plain(s: &[u8]) -> u64
+    ensures { λ r. ⌜ r ≡ readingWord (reading plain (now (s .entry))) ⌝ }
+{
+    reading_word(read_plain(s))
+}
+
+// Where rule `number` of a source lies, or the refusal.
+#[no_mangle]
+pub extern "C" fn aspda_show_source(s: &[u8], number: u32) -> u64
+    ensures { λ r. ⌜ r ≡ shownWord (shown source (now (s .entry)) number) ⌝ }
+{
+    shown_word(find_source(s, number))
+}
+
+// Where rule `number` of a plain program lies, or the refusal.
+#[no_mangle]
+pub extern "C" fn aspda_show_plain(s: &[u8], number: u32) -> u64
+    ensures { λ r. ⌜ r ≡ shownWord (shown plain (now (s .entry)) number) ⌝ }
+{
+    shown_word(find_plain(s, number))
+}

@@ -1,0 +1,45 @@
+// Answers as 64-bit words.
+
+use record::Extent;
+use record::Reading;
+use record::Refusal;
+use record::Shown;
+use record::number::reason_number;
+ghost use mathlib.Core.Path.{_≡_};
+ghost use Rattle.aspda.specs.Words.{refusalWord, readingWord, extentWord, shownWord, ShortPlace, ShortExtent, ShortReading, ShortShown};
+
+pub fn refusal_word(x: Refusal) -> u64
+    requires { ⌜ ShortPlace x ⌝ }
+    ensures { λ r. ⌜ r ≡ refusalWord x ⌝ }
+{
+    let reason = x.reason;
+    let number = reason_number(reason);
+    9223372036854775808 + number as u64 * 4294967296 + x.place as u64
+}
+
+pub fn reading_word(a: Reading) -> u64
+    requires { ⌜ ShortReading a ⌝ }
+    ensures { λ r. ⌜ r ≡ readingWord a ⌝ }
+{
+    match a {
+        Reading::Rules(n) => n as u64,
+        Reading::Refused(x) => refusal_word(x),
+    }
+}
+
+pub fn extent_word(e: Extent) -> u64
+    requires { ⌜ ShortExtent e ⌝ }
+    ensures { λ r. ⌜ r ≡ extentWord e ⌝ }
+{
+    e.start as u64 * 4294967296 + e.size as u64
+}
+
+pub fn shown_word(a: Shown) -> u64
+    requires { ⌜ ShortShown a ⌝ }
+    ensures { λ r. ⌜ r ≡ shownWord a ⌝ }
+{
+    match a {
+        Shown::At(e) => extent_word(e),
+        Shown::Refused(x) => refusal_word(x),
+    }
+}

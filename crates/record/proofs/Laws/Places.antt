@@ -1,0 +1,106 @@
+-- A refusal met in a record has its place within the record's part. Assumes nothing.
+use Prim.Native.Nat.{ℕ, zero, suc, _+_, _*_, _≤_}
+use native.Mathlib.Omega.{arith}
+use mathlib.Core.Path.{_≡_, refl, sym, subst}
+use mathlib.Core.Bool.{Bool, true, false, not, _&&_}
+use mathlib.Core.List.{List, [], _∷_}
+use mathlib.Core.Option.{Option, none, some}
+use lib.Dec.{leb, ltb, eqb}
+use lib.ListN.{length, getD, take, drop}
+use borrow.Author.Tests.{ltb-false}
+use Rattle.buffer.specs.Bytes.{numberAt}
+use Rattle.literal.specs.declared.Limits.{Limits}
+use Rattle.literal.specs.declared.SignedAtom.{SignedAtom}
+use Rattle.literal.specs.declared.Literal.{Literal}
+use Rattle.literal.specs.declared.Decoded.{Decoded}
+use Rattle.literal.specs.declared.Decoded.the-variants.{Valid, Wrong}
+use Rattle.literal.specs.Literal.{decoded}
+use Rattle.semantics.specs.Rule.{Rule, strict, defeasible}
+use Rattle.semantics.specs.Form.{keepsCounts}
+use Rattle.record.specs.declared.Reason.the-variants.{LiteralWrong, HeadWrong}
+use Rattle.record.specs.declared.Refusal.{Refusal}
+use Rattle.record.specs.declared.Mark.{Mark}
+use Rattle.record.specs.declared.Mark.the-variants.{RuleMark, EndMark, NoMark}
+use Rattle.record.specs.declared.Step.{Step}
+use Rattle.record.specs.Refusal.{refusal}
+use Rattle.record.specs.Result.{Result, accepted, refused, andThen, refuseIf}
+use Rattle.record.specs.Reading.{Entry, rule, end, literalsAt, optionsOf, defeasibleRule, ruleOf, tagRight, bodyAt, ruleAt, endAt, markAt, markedRecord, recordAt}
+use Rattle.record.specs.Code.{stepOf}
+use Rattle.record.proofs.Laws.Program.{step-refused}
+
+-- a refusal's place is at most k
+abbrev pub Placed : {A : Type 0} → ℕ → Result A → Type 0
+Placed k (accepted a) = Unit
+Placed k (refused x) = x .place ≤ k
+
+pub refuse-if-placed : {A : Type 0} (k : ℕ) (b : Bool) (x : Refusal) (r : Result A) → x .place ≤ k → (b ≡ false → Placed k r) → Placed k (refuseIf b x r)
+unfolding refuseIf
+refuse-if-placed k true x r h f = h
+refuse-if-placed k false x r h f = f refl
+
+pub and-then-placed : {A B : Type 0} (k : ℕ) (r : Result A) (f : A → Result B) → Placed k r → ((a : A) → Placed k (f a)) → Placed k (andThen r f)
+unfolding andThen
+and-then-placed k (accepted a) f p g = g a
+and-then-placed k (refused x) f p g = p
+
+literals-placed : (F : Limits) (t : List ℕ) (k n at : ℕ) → at + 5 * n ≤ k → Placed k (literalsAt F t at n)
+unfolding literalsAt
+literals-placed F t k zero at h = tt
+literals-placed F t k (suc n) at h = go (decoded F (drop at t)) (literals-placed F t k n (at + 5) (omega arith))
+  where
+    step : Decoded → Result (List Literal)
+    step d = elim d [ Valid l ↦ andThen (literalsAt F t (at + 5) n) (λ ls. accepted (l ∷ ls)) | Wrong ↦ refused (refusal LiteralWrong at) ]
+
+    go : (d : Decoded) → Placed k (literalsAt F t (at + 5) n) → Placed k (step d)
+    go (Valid l) ih = and-then-placed k (literalsAt F t (at + 5) n) (λ ls. accepted (l ∷ ls)) ih (λ ls. tt)
+    go Wrong ih = omega arith
+
+defeasible-placed : (k tag : ℕ) (h b c : List Literal) → Placed k (defeasibleRule tag h b c)
+unfolding defeasibleRule
+defeasible-placed k tag [] b c = omega arith
+defeasible-placed k tag (l ∷ h) b c = go (optionsOf (l ∷ h))
+  where
+    go : (o : Option (List SignedAtom))
+        → Placed {A = Rule} k (elim o as (λ x. Result Rule) [ some os ↦ accepted (defeasible (record { 0 = tag }) os b c) | none ↦ refused (refusal HeadWrong 0) ])
+    go (some os) = tt
+    go none = omega arith
+
+rule-of-placed : (k : ℕ) (d : Bool) (tag h b : ℕ) (ls : List Literal) → Placed k (ruleOf d tag h b ls)
+unfolding ruleOf
+rule-of-placed k true tag h b ls = defeasible-placed k tag (take h ls) (take b (drop h ls)) (drop (h + b) ls)
+rule-of-placed k false tag h b ls = tt
+
+body-placed : (F : Limits) (d : Bool) (t : List ℕ) (h b c : ℕ) → Placed (length t) (bodyAt F d t h b c)
+unfolding bodyAt
+body-placed F d t h b c =
+    refuse-if-placed (length t) (ltb (length t) (7 + 5 * (h + b + c))) _ _ (omega arith)
+    (λ e. and-then-placed (length t) (literalsAt F t 7 (h + b + c)) _ (literals-placed F t (length t) (h + b + c) 7 (ltb-false (length t) (7 + 5 * (h + b + c)) e))
+    (λ ls. and-then-placed (length t) (ruleOf d (numberAt t 2) h b ls) _ (rule-of-placed (length t) d (numberAt t 2) h b ls) (λ r. tt)))
+
+rule-placed : (F : Limits) (d : Bool) (n : ℕ) (t : List ℕ) → Placed (length t) (ruleAt F d n t)
+unfolding ruleAt
+rule-placed F d n t =
+    refuse-if-placed (length t) (ltb (length t) 7) _ _ (omega arith)
+    (λ e. refuse-if-placed (length t) (leb (F .rules) n) _ _ (omega arith)
+    (λ e. refuse-if-placed (length t) (not (tagRight F d (numberAt t 2))) _ _ (omega arith)
+    (λ e. refuse-if-placed (length t) (not (keepsCounts F (getD t 4 0) (getD t 5 0) (getD t 6 0))) _ _ (omega arith)
+    (λ e. body-placed F d t (getD t 4 0) (getD t 5 0) (getD t 6 0)))))
+
+end-placed : (k n : ℕ) (t : List ℕ) → Placed k (endAt n t)
+unfolding endAt
+end-placed k n t =
+    refuse-if-placed k (ltb (length t) 4) _ _ (omega arith)
+    (λ e. refuse-if-placed k (not (eqb (numberAt t 2) n && eqb (length t) 4)) _ _ (omega arith) (λ e. tt))
+
+pub record-placed : (F : Limits) (n : ℕ) (t : List ℕ) → Placed (length t) (recordAt F n t)
+unfolding recordAt markedRecord
+record-placed F n t = refuse-if-placed (length t) (ltb (length t) 2) _ _ (omega arith) (λ e. go (markAt F t))
+  where
+    go : (m : Mark) → Placed (length t) (markedRecord F m n t)
+    go (RuleMark d) = rule-placed F d n t
+    go EndMark = end-placed (length t) n t
+    go NoMark = omega arith
+
+-- a record's refusal lies within its part
+pub step-place : (F : Limits) (n : ℕ) (t : List ℕ) (x : Refusal) → stepOf (recordAt F n t) ≡ Step.Refused x → x .place ≤ length t
+step-place F n t x e = subst (Placed (length t)) (step-refused (recordAt F n t) x e) (record-placed F n t)

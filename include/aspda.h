@@ -1,0 +1,36 @@
+/* Yuldravn's functions for C. Link target/staticlib/libaspda.a (made by `rt staticlib aspda`).
+ *
+ * Every function answers one 64-bit word. A refusal is 2^63 + number * 2^32 + place, with document 01's number and the
+ * byte offset of its place; all else is below 2^63. A pointer comes with its length and is never null. The functions
+ * read and write nothing but the slices that they are lent, keep no state and take no memory of their own.
+ */
+#ifndef ASPDA_H
+#define ASPDA_H
+
+#include <stddef.h>
+#include <stdint.h>
+
+#ifdef __cplusplus
+extern "C" {
+#endif
+
+#define ASPDA_IS_REFUSAL(word) ((word) >> 63)
+#define ASPDA_REFUSAL_NUMBER(word) ((uint32_t)(((word) >> 32) & 0x7fffffff))
+#define ASPDA_REFUSAL_PLACE(word) ((uint32_t)(word))
+
+/* The number of rules of the program in p[0 .. n). */
+uint64_t aspda_read_source(const uint8_t *p, size_t n);
+uint64_t aspda_read_plain(const uint8_t *p, size_t n);
+
+/* Where the record of a rule lies, the rules being numbered from 1: start * 2^32 + length. */
+uint64_t aspda_show_source(const uint8_t *p, size_t n, uint32_t rule);
+uint64_t aspda_show_plain(const uint8_t *p, size_t n, uint32_t rule);
+
+#define ASPDA_SHOWN_START(word) ((uint32_t)((word) >> 32))
+#define ASPDA_SHOWN_LENGTH(word) ((uint32_t)(word))
+
+#ifdef __cplusplus
+}
+#endif
+
+#endif

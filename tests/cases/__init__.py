@@ -1,0 +1,1 @@
+"""Test cases for the operations, their outcomes taken from the reference."""

@@ -1,0 +1,165 @@
+"""The operations as rows: what each takes and may refuse, and a case's outcome by the reference."""
+
+from typing import NamedTuple, Optional
+
+import aspda
+from cases.slices import NOTHING, Slice, whole
+
+
+class Operation(NamedTuple):
+    name: str                       # the export's name behind "aspda_"
+    group: str                      # its name in --ops
+    form: Optional[aspda.Form]      # of its program, or of its set where it takes no program
+    takes_program: bool
+    takes_set: bool
+    writes: bool
+    refusals: tuple                 # every number that it can give
+    number: int = 0
+
+    def set_limit(self):
+        return aspda.CHECKED_LITERALS if self.group == "check" else self.form.set_literals
+
+
+READING = {aspda.SOURCE: (1, 2, 3, 4, 5, 6, 7, 8), aspda.PLAIN: (1, 2, 3, 4, 5, 6, 8)}
+SET_AND_OUTPUT = (9, 10, 11, 12)
+
+
+def operation(name, form, program, literals, writes, refusals):
+    return Operation(name, name.split("_")[0], form, program, literals, writes, refusals)
+
+
+def listed():
+    rows = []
+    for name, form in (("source", aspda.SOURCE), ("plain", aspda.PLAIN)):
+        reading = READING[form]
+        rows += [
+            operation(f"read_{name}", form, True, False, False, reading),
+            operation(f"show_{name}", form, True, False, False, reading + (13,)),
+            operation(f"quotient_{name}", form, True, True, True, reading + SET_AND_OUTPUT),
+            operation(f"check_{name}", form, True, True, True, reading + SET_AND_OUTPUT),
+        ]
+    source = READING[aspda.SOURCE]
+    rows += [
+        operation("translate", aspda.SOURCE, True, False, True, source + (9,)),
+        operation("extend", aspda.SOURCE, True, True, True, source + SET_AND_OUTPUT),
+        operation("restrict", aspda.PLAIN, False, True, True, SET_AND_OUTPUT),
+        operation("filter", aspda.SOURCE, True, False, False, source + (9,)),
+    ]
+    return [row._replace(number=number) for number, row in enumerate(rows)]
+
+
+OPERATIONS = listed()
+BY_NAME = {row.name: row for row in OPERATIONS}
+GROUPS = tuple(dict.fromkeys(row.group for row in OPERATIONS))
+
+ACCEPTED = "accepted"
+
+
+class Case(NamedTuple):
+    """One call, and what its author states of its outcome.
+
+    Nothing, ACCEPTED, a refusal's number, a refusal as (number, place), or a verdict's name.
+    """
+
+    name: str
+    operation: Operation
+    program: Slice = NOTHING
+    literals: Slice = NOTHING
+    rule: int = 0
+    room: int = 0
+    stated: object = None
+
+
+class Row(NamedTuple):
+    """One call and its outcome."""
+
+    name: str
+    operation: Operation
+    program: Slice
+    literals: Slice
+    rule: int
+    room: int
+    word: int
+    written: Slice
+
+
+def pattern(length):
+    """What the lent buffer holds before the call."""
+    return (bytes(range(251, 0, -1)) * (length // 251 + 1))[:length]
+
+
+def call(case):
+    """The reference's answer: the word and the lent buffer after the call."""
+    kind = case.operation
+    if kind.group == "filter":
+        stdout = aspda.filter(case.program.data)
+        return aspda.Answer(len(stdout), stdout)
+    inputs = []
+    if kind.takes_program:
+        inputs.append(case.program.data)
+    if kind.takes_set:
+        inputs.append(case.literals.data)
+    if kind.group == "show":
+        inputs.append(case.rule)
+    return getattr(aspda, kind.name)(*inputs, out=pattern(case.room))
+
+
+def length_written(kind, word):
+    """How many bytes of the lent buffer an answer with this word changes."""
+    if word >= aspda.REFUSED or kind.group in ("read", "show"):
+        return 0
+    if kind.group == "check":
+        return word & 0xFFFF_FFFF if word >> 32 == 3 else 0
+    return word
+
+
+def refusal_in(row):
+    """The refusal that a row expects, as (number, place), or None."""
+    if row.operation.group == "filter":
+        stdout = row.written.data
+        if stdout[:2] != aspda.REFUSAL:
+            return None
+        return stdout[2], int.from_bytes(stdout[3:], "big")
+    if row.word < aspda.REFUSED:
+        return None
+    return row.word - aspda.REFUSED >> 32, row.word & 0xFFFF_FFFF
+
+
+def evaluated(case):
+    """The row of a case; a statement that the reference contradicts is an error."""
+    word, buffer = call(case)
+    written = length_written(case.operation, word)
+    lent = pattern(case.room) if case.operation.group != "filter" else buffer
+    assert len(buffer) == len(lent) and buffer[written:] == lent[written:], case.name
+    row = Row(case.name, case.operation, case.program, case.literals, case.rule, case.room, word,
+              whole(buffer[:written]))
+    end = outcome(row)
+    if not agrees(case.stated, refusal_in(row), end):
+        raise AssertionError(f"{case.operation.name} {case.name}: stated {case.stated}, "
+                             f"the reference gives {refusal_in(row) or end}")
+    return row._replace(name=f"{case.name}-{end}")
+
+
+def agrees(stated, refusal, end):
+    if stated is None:
+        return True
+    if isinstance(stated, tuple):
+        return refusal == stated
+    if isinstance(stated, int):
+        return refusal is not None and refusal[0] == stated
+    return refusal is None and (stated == ACCEPTED or end.split("-")[0] == stated)
+
+
+def outcome(row):
+    """The end of a row's name."""
+    refusal = refusal_in(row)
+    if refusal is not None:
+        return f"refused-{refusal[0]}"
+    if row.operation.group == "check":
+        high, low = row.word >> 32, row.word & 0xFFFF_FFFF
+        return ("yes", f"clash-{low}", f"broken-{low}", f"smaller-{low}-bytes")[high]
+    if row.operation.group == "read":
+        return f"has-{row.word}-rules"
+    if row.operation.group == "show":
+        return f"shown-at-{row.word >> 32}"
+    return f"gives-{row.word}-bytes"

@@ -1,0 +1,342 @@
+"""Programs at the limits, cut, flipped and miscounted, and random ones from tiny to limit size."""
+
+from functools import lru_cache
+
+import samples
+from aspda import (SOURCE, Literal, atom, defeasible, defeated, derived,
+                   encoded_program, negated, read, rule_defeated, strict, translation)
+from cases import faults
+from cases.faults import ProgramCase, encoded_rules, end_record
+from cases.operations import ACCEPTED
+from cases.slices import NOTHING, whole
+
+# Reading a program above this length takes the reference long: such cases feed few operations.
+HEAVY = 12_000
+
+
+def program(rules):
+    return whole(encoded_program(rules))
+
+
+def is_heavy(form, case):
+    return HEAVY < len(case.program) <= form.length
+
+
+# ---------------------------------------------------------------------------------------------
+# Sample programs: small ones with every kind of record and literal, and the longest ones
+
+
+def mixed_source():
+    return [
+        defeasible(200, [atom(1), negated(500), atom(1)], [defeated(1, negated(7))], [atom(256)]),
+        strict(),
+        strict([defeated(200, atom(1)), negated(3)], [], [defeated(200, negated(500)), negated(1)]),
+        defeasible(1, [negated(7)]),
+        strict([], [atom(500), negated(256)]),
+    ]
+
+
+def mixed_plain():
+    return [
+        strict([derived(200, atom(1)), rule_defeated(256)], [derived(1, negated(500))],
+               [rule_defeated(1), defeated(7, atom(256))]),
+        strict(),
+        strict([atom(500)], [negated(1), rule_defeated(200)], [derived(200, negated(256))]),
+        strict([], [defeated(1, negated(1))]),
+    ]
+
+
+def small_samples(form):
+    """Programs that are cut and changed at each byte."""
+    if form is SOURCE:
+        return {"m1": program(samples.M1), "m3": program(samples.M3),
+                "mixed": program(mixed_source())}
+    return {"m1": program(translation(samples.M1)), "m3": program(translation(samples.M3)),
+            "mixed": program(mixed_plain())}
+
+
+def longest_source_rules():
+    """256 rules with every count at its limit; each tag with each head only once."""
+    rules = []
+    for number in range(256):
+        options = [(negated if (number + place) % 3 == 0 else atom)(1 + (31 * number + place) % 500)
+                   for place in range(16)]
+        bodies = [defeated(1 + place, atom(1 + number)) for place in range(16)]
+        nafs = [atom(485 + place) for place in range(16)]
+        rules.append(defeasible(1 + number % 200, options, bodies, nafs))
+    return rules
+
+
+def longest_plain_rules():
+    """1,280 rules of 48 or 49 literals: as long as the longest translation, with other counts."""
+    literals = list(samples.all_literals((0, 1, 6)))
+    rules = []
+    for number in range(1_280):
+        picked = [literals[(7 * number + 13 * place) % len(literals)] for place in range(49)]
+        nafs = picked[32:] if number < 256 else picked[32:48]
+        rules.append(strict(picked[:16], picked[16:32], nafs))
+    return rules
+
+
+@lru_cache(maxsize=None)
+def longest(form):
+    """The programs of exactly the form's largest length."""
+    if form is SOURCE:
+        return {"longest": program(longest_source_rules())}
+    return {"longest-translation": program(translation(longest_source_rules())),
+            "longest-wide": program(longest_plain_rules())}
+
+
+# ---------------------------------------------------------------------------------------------
+# Limits
+
+
+def one_rule(name, rule, stated=ACCEPTED):
+    return ProgramCase(name, program([rule]), stated)
+
+
+def rule_counts(form):
+    for count in (0, 1, 2, 255, 256, form.rules):
+        yield ProgramCase(f"rules-{count}", program([strict()] * count), ACCEPTED)
+    full = program([strict()] * (form.rules + 1))
+    place = 7 * form.rules
+    yield ProgramCase(f"rules-{form.rules + 1}", full, (4, place))
+    # With all rules held, the next record decides: its mark and header still come before 4.
+    for length, number in ((place + 7, 4), (place + 6, 2), (place + 1, 2)):
+        yield ProgramCase(f"rules-{form.rules + 1}-cut-at-{length}", full.cut(length),
+                          (number, place))
+    yield ProgramCase(f"rules-{form.rules}-end-says-{form.rules + 1}",
+                      full.cut(place) + whole(end_record(form.rules + 1)), (8, place))
+
+
+def literal_counts(form):
+    one = [atom(1)]
+    limits = (form.heads, form.positives, form.nafs)
+    for place, name in enumerate(("heads", "positives", "nafs")):
+        for count in (0, 1, limits[place], limits[place] + 1, 255):
+            parts = [[], [], []]
+            parts[place] = one * count
+            stated = ACCEPTED if count <= limits[place] else (4, 0)
+            yield one_rule(f"{name}-{count}", strict(*parts), stated)
+            if form is SOURCE:
+                parts[0] = parts[0] or one
+                yield one_rule(f"defeasible-{name}-{count}", defeasible(7, *parts), stated)
+    full = [one * limit for limit in limits]
+    yield one_rule("all-counts-at-limit", strict(*full))
+
+
+def number_limits(form):
+    """Atoms, tags and rule numbers at their limits, in every kind and place."""
+    for kind in range(0, 8):
+        wrong_kind = kind not in form.kinds
+        is_mark, is_rule = kind in (2, 3, 4, 5), kind == 6
+        for number in (0, 1, 256, 257, 500, 501, 65_535):
+            fits = 1 <= number <= (256 if is_rule else 500) and not wrong_kind
+            yield from in_places(form, f"kind-{kind}-atom-{number}",
+                                 Literal(kind, 7 if is_mark else 0, number), fits)
+        for tag in (0, 1, 200, 201, 256, 65_535):
+            fits = (1 <= tag <= 200 if is_mark else tag == 0) and not wrong_kind
+            yield from in_places(form, f"kind-{kind}-tag-{tag}", Literal(kind, tag, 1), fits)
+
+
+def in_places(form, name, literal, fits):
+    """A rule with the literal as its only one, in each place."""
+    stated = ACCEPTED if fits else (5, 7)
+    yield one_rule(f"{name}-head", strict([literal]), stated)
+    yield one_rule(f"{name}-positive", strict([], [literal]), stated)
+    yield one_rule(f"{name}-naf", strict([], [], [literal]), stated)
+    if form is SOURCE:
+        option = ACCEPTED if literal.kind < 2 else (7, 0)
+        yield one_rule(f"{name}-option", defeasible(7, [literal]), option if fits else stated)
+
+
+def rule_tags(form):
+    record = bytearray(encoded_program([strict()]))
+    for tag in (0, 1, 200, 201, 256, 65_535):
+        record[2:4] = tag.to_bytes(2, "big")
+        yield ProgramCase(f"strict-tag-{tag}", whole(bytes(record)),
+                          ACCEPTED if tag == 0 else (6, 0))
+    if form is SOURCE:
+        record = bytearray(encoded_program([defeasible(1, [atom(1)])]))
+        for tag in (0, 1, 2, 199, 200, 201, 256, 65_535):
+            record[2:4] = tag.to_bytes(2, "big")
+            yield ProgramCase(f"defeasible-tag-{tag}", whole(bytes(record)),
+                              ACCEPTED if 1 <= tag <= 200 else (6, 0))
+
+
+def lengths(form):
+    """The longest programs, and slices that are too long whatever they hold."""
+    for name, exact in longest(form).items():
+        yield ProgramCase(f"{name}-{len(exact)}", exact, ACCEPTED)
+        yield ProgramCase(f"{name}-{len(exact) - 1}", exact.cut(len(exact) - 1),
+                          (2, len(exact) - 4))
+        yield from too_long(form, name, exact)
+
+
+def too_long(form, name, exact):
+    """Refused as 1 before anything else is looked at."""
+    assert len(exact) == form.length
+    for tail in (b"\0", b"S", b"E:", end_record(0), b"\xff" * 40, encoded_rules(3)):
+        yield ProgramCase(f"{name}-{form.length + len(tail)}", exact + whole(tail), (1, 0))
+    for at, new in ((0, b"X:"), (2, b"\xff\xff"), (4, b"\xff\xff\xff"), (7, b"\x09")):
+        yield ProgramCase(f"{name}-{form.length + 1}-wrong-at-{at}",
+                          exact.patched(at, new) + whole(b"\0"), (1, 0))
+    for rest in (0, 1, 5, form.length - 1):
+        yield ProgramCase(f"{name}-doubled-less-{rest}",
+                          exact + exact.cut(form.length - rest), (1, 0))
+
+
+def limit_cases(form):
+    for make in (rule_counts, literal_counts, number_limits, rule_tags, lengths):
+        yield from make(form)
+
+
+# ---------------------------------------------------------------------------------------------
+# Cut, flipped, miscounted
+
+
+def starts(form, data):
+    """The offsets of a program's records, the end record's too."""
+    records = read(form, data)
+    return [record.start for record in records] + [len(data) - 4]
+
+
+def truncations(form):
+    """Each proper prefix of a program is cut in the record that it stops in."""
+    for name, sample in small_samples(form).items():
+        offsets = starts(form, sample.data)
+        for length in range(len(sample)):
+            place = max(start for start in offsets if start <= length)
+            yield ProgramCase(f"{name}-cut-at-{length}", sample.cut(length), (2, place))
+
+
+def long_truncations(form):
+    """Cuts of the longest programs, early and late."""
+    for name, sample in longest(form).items():
+        size = len(sample)
+        late = range(size - 12, size) if form is SOURCE else (size - 5, size - 2)
+        for length in (*range(0, 12), 254, 255, size // 5, *late):
+            yield ProgramCase(f"{name}-cut-at-{length}", sample.cut(length))
+
+
+def flips(form, rng):
+    """Each byte of the small samples changed in several ways."""
+    for name, sample in small_samples(form).items():
+        for at in range(len(sample)):
+            for mask in {1, 128, 255, rng.randint(1, 255)}:
+                yield ProgramCase(f"{name}-byte-{at}-flipped-by-{mask}", sample.flipped(at, mask))
+
+
+def all_flips(form):
+    """Every other value at each byte of the smallest sample."""
+    sample = small_samples(form)["m1"].data
+    for at in range(16):
+        for mask in range(1, 256):
+            yield ProgramCase(f"m1-byte-{at}-flipped-by-{mask}", whole(sample).flipped(at, mask))
+
+
+def long_flips(form, rng, count):
+    """Single bytes of the longest programs changed."""
+    for name, sample in longest(form).items():
+        for _ in range(count):
+            at = rng.randrange(len(sample))
+            yield ProgramCase(f"{name}-byte-{at}-flipped", sample.flipped(at, rng.randint(1, 255)))
+
+
+def wrong_counts(form):
+    """Each count field of the small samples set to other values."""
+    for name, sample in small_samples(form).items():
+        for number, start in enumerate(starts(form, sample.data)[:-1], start=1):
+            for at in (start + 4, start + 5, start + 6):
+                count = sample.data[at]
+                for other in {0, count + 1, max(count - 1, 0), 16, 17, 18, 255} - {count}:
+                    yield ProgramCase(f"{name}-rule-{number}-count-{at - start}-is-{other}",
+                                      sample.patched(at, bytes((other,))))
+        for other in (0, 1, 255, 256, 12_800, 65_535):
+            yield ProgramCase(f"{name}-end-says-{other}",
+                              sample.patched(len(sample) - 2, other.to_bytes(2, "big")))
+
+
+def record_shuffles(form):
+    """Records left out, doubled, swapped and put behind the end."""
+    for name, sample in small_samples(form).items():
+        offsets = starts(form, sample.data) + [len(sample)]
+        records = [sample.part(*ends) for ends in zip(offsets, offsets[1:])]
+        for at in range(len(records)):
+            left_out = records[:at] + records[at + 1:]
+            changed = {"left-out": left_out, "last": left_out + [records[at]],
+                       "doubled": records[:at + 1] + records[at:]}
+            for what, others in changed.items():
+                yield ProgramCase(f"{name}-record-{at + 1}-{what}", sum(others, NOTHING))
+
+
+# ---------------------------------------------------------------------------------------------
+# Random programs, and random faults
+
+
+SIZES = (0, 1, 2, 3, 4, 5, 8, 12, 20, 40, 100, 255, 256)
+
+
+def random_rules(form, rng, shape):
+    return (samples.random_source if form is SOURCE else samples.random_plain)(rng, shape)
+
+
+def random_shape(form, rng, rules):
+    return samples.Shape(rules=rules, atoms=rng.randint(1, 12), tags=rng.randint(1, 5),
+                         heads=rng.choice((1, 2, 3, form.heads)),
+                         positives=rng.choice((0, 1, 3, form.positives)),
+                         nafs=rng.choice((0, 1, 3, form.nafs)))
+
+
+def random_programs(form, rng):
+    """Rules of random programs, from tiny to many."""
+    sizes = SIZES if form is SOURCE else SIZES + (1_000,)
+    for rules in sizes:
+        for run in range(4 if rules <= 20 else 1):
+            shape = random_shape(form, rng, rules)
+            yield f"random-{rules}-rules-{run}", random_rules(form, rng, shape)
+
+
+def faulty_program(form, rng, number):
+    """A random program refused with this number, its fault in a random record."""
+    if number == 1:
+        return rng.choice(too_long_programs(form))
+    if number == 2:
+        data = random_program(form, rng)
+        return whole(data).cut(rng.randrange(len(data)))
+    if number == 8:
+        return wrong_end(form, rng)
+    mark = b"D:" if number == 7 else rng.choice(faults.marks_of(form))
+    wanted = [fault for fault in faults.faults_of(form, mark)
+              if faults.NUMBERS[fault.test] == number]
+    return with_fault(form, rng, mark, rng.choice(wanted))
+
+
+@lru_cache(maxsize=None)
+def too_long_programs(form):
+    return [case.program for case in too_long(form, "", longest_of(form))]
+
+
+def longest_of(form):
+    return next(iter(longest(form).values()))
+
+
+def random_program(form, rng):
+    return encoded_program(random_rules(form, rng, random_shape(form, rng, rng.randint(0, 6))))
+
+
+def with_fault(form, rng, mark, fault):
+    """A random program with the faulty record put before one of its records."""
+    data = random_program(form, rng)
+    start = rng.choice(starts(form, data))
+    rules = int.from_bytes(data[-2:], "big")
+    record = faults.spoiled(mark, [fault]).data()
+    return whole(data[:start] + record + data[start:-4] + end_record(rules + 1))
+
+
+def wrong_end(form, rng):
+    data = random_program(form, rng)
+    rules = int.from_bytes(data[-2:], "big")
+    if rng.random() < 0.5:
+        return whole(data + rng.randbytes(rng.randint(1, 9)))
+    return whole(data[:-4] + end_record((rules + rng.choice((1, 255, 256, -1))) % 65_536))

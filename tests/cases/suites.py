@@ -1,0 +1,405 @@
+"""The default set of cases for each operation.
+
+Program cases feed every operation that takes a program, set cases every one that takes a set; what
+is particular to an operation follows. Generators take a random source of their own, so that the
+cases of an operation do not depend on which others are asked for.
+"""
+
+import random
+from functools import lru_cache
+from itertools import islice, product
+
+import samples
+from aspda import (CHECKED_LITERALS, PLAIN, SOURCE, atom, defeasible, defeated, negated, strict,
+                   translation)
+from cases import faults, literal_sets, programs, verdicts
+from cases.literal_sets import literal_set
+from cases.operations import ACCEPTED, Case, call
+from cases.slices import NOTHING
+
+# So many random cases for each refusal number; the runner asks for at least 20.
+PER_REFUSAL = 24
+
+FAR_RULE = 2**32 - 1
+
+LARGEST_RESULT = PLAIN.length
+LARGE_RESULT = 10_000   # such results take the reference long: they get fewer buffers
+
+
+def default_cases(operation, seed):
+    def rng(part):
+        return random.Random(f"{seed} {operation.name} {part}")
+
+    if operation.takes_program:
+        yield from fed_programs(operation, rng)
+        yield from valid_programs(operation, rng("valid"))
+    if operation.takes_set:
+        yield from fed_sets(operation, rng("sets"))
+        yield from largest_sets(operation)
+    yield from order_of_refusals(operation, rng("order"))
+    yield from one_refusal_each(operation, rng("refusals"))
+    yield from PARTICULAR[operation.group](operation, rng("particular"))
+
+
+# ---------------------------------------------------------------------------------------------
+# Room
+
+
+def ample(case):
+    """A case with room for whatever its operation writes."""
+    if not case.operation.writes:
+        return case
+    return case._replace(room=min(13 * len(case.program) + len(case.literals) + 8, LARGEST_RESULT))
+
+
+def needed_room(case):
+    """The smallest lent buffer that is not refused as too short, if nothing else is refused."""
+    if case.operation.group == "check":
+        return len(case.literals)
+    return call(ample(case)).word
+
+
+def with_rooms(case):
+    """The case with a lent buffer of exactly the room needed, with more, with too little."""
+    if not case.operation.writes:
+        yield case
+        return
+    needed = needed_room(case)
+    rooms = {"exact": needed, "one-short": needed - 1}
+    if needed < LARGE_RESULT:
+        rooms |= {"longer": needed + 7, "far-longer": 2 * needed + 300, "none": 0}
+    else:
+        rooms |= {"longer": needed + 1}
+    for name, room in rooms.items():
+        yield case._replace(name=f"{case.name}-room-{name}", room=room,
+                            stated=ACCEPTED if room >= needed else (9, 0))
+
+
+# ---------------------------------------------------------------------------------------------
+# Programs and sets fed to every operation
+
+
+@lru_cache(maxsize=None)
+def small_set(operation):
+    """A small set that every operation takes, with a mark that takes heads out of M3's quotient."""
+    if not operation.takes_set:
+        return NOTHING
+    return literal_set({atom(1), atom(4), defeated(2, atom(5))})
+
+
+def fed_programs(operation, rng):
+    for case in light_program_cases(operation, rng):
+        if not programs.is_heavy(operation.form, case):
+            yield fed(operation, case)
+    for case in heavy_program_cases(operation, rng):
+        yield fed(operation, case)
+
+
+def fed(operation, program_case):
+    case = Case(program_case.name, operation, program_case.program, small_set(operation), rule=1,
+                room=40 if operation.writes else 0)
+    if operation.group != "show":
+        case = case._replace(rule=0)
+    if isinstance(program_case.stated, tuple):
+        return case._replace(stated=program_case.stated)
+    if operation.group in ("show", "filter"):
+        return case     # they may refuse a program that read accepts
+    return ample(case)._replace(stated=program_case.stated)
+
+
+@lru_cache(maxsize=None)
+def listed(make, form):
+    """The cases of a form, made once for all operations."""
+    return list(make(form))
+
+
+def light_program_cases(operation, rng):
+    form = operation.form
+    small = (faults.good_program, faults.single_faults, faults.end_faults, faults.fault_sets,
+             programs.truncations)
+    for make in small:
+        yield from listed(make, form)
+    if operation.group == "filter":
+        return      # each of its rows starts a program
+    for make in (programs.limit_cases, programs.wrong_counts, programs.record_shuffles):
+        yield from listed(make, form)
+    step = 1 if operation.group == "read" else 4
+    for cases in (listed(faults.fault_pairs, form), listed(faults.faults_apart, form),
+                  programs.flips(form, rng("flips"))):
+        yield from islice(cases, operation.number % step, None, step)
+    if operation.group == "read":
+        yield from programs.all_flips(form)
+    if form is SOURCE:
+        several = faults.faults_of if operation.group == "read" else faults.one_fault_of_each
+        yield from faults.faults_behind_all_rules(form, several)
+
+
+def heavy_program_cases(operation, rng):
+    """All of them for read; for the others the one with a rule too many."""
+    form = operation.form
+    for case in listed(programs.limit_cases, form):
+        too_many = case.name == f"rules-{form.rules + 1}"
+        if programs.is_heavy(form, case) and (operation.group == "read" or too_many):
+            yield case
+    if operation.group != "read":
+        return
+    yield from programs.long_truncations(form)
+    yield from programs.long_flips(form, rng("long flips"), 20 if form is SOURCE else 4)
+    if form is PLAIN:
+        yield from faults.faults_behind_all_rules(form, faults.one_fault_of_each)
+
+
+def valid_programs(operation, rng):
+    """Random programs from tiny to many rules, with sets that touch them, in several buffers."""
+    for name, rules in programs.random_programs(operation.form, rng):
+        case = Case(name, operation, programs.program(rules))
+        if operation.takes_set:
+            most = min(operation.set_limit(), 30)
+            chosen = samples.random_subset(rng, samples.literals_of(rules), most)
+            case = case._replace(literals=literal_set(chosen))
+        if operation.group == "show":
+            case = case._replace(rule=rng.randint(1, max(1, len(rules))))
+        yield from with_rooms(case)
+
+
+@lru_cache(maxsize=None)
+def small_program(operation):
+    if not operation.takes_program:
+        return NOTHING
+    rules = samples.M3 if operation.form is SOURCE else translation(samples.M3)
+    return programs.program(rules)
+
+
+def fed_sets(operation, rng):
+    """The small program with every set case."""
+    for case in literal_sets.set_cases(operation.form, operation.set_limit(), rng):
+        yield ample(Case(case.name, operation, small_program(operation), case.literals,
+                         stated=case.stated))
+
+
+def largest_sets(operation):
+    """Sets of the largest size with a buffer that just fits and one that does not."""
+    chosen = literal_sets.spread(operation.form, operation.set_limit())
+    if operation.group == "check":
+        chosen = verdicts.stock(operation.form, CHECKED_LITERALS)
+    yield from with_rooms(Case(f"largest-set-{len(chosen)}", operation, small_program(operation),
+                               literal_set(chosen)))
+
+
+# ---------------------------------------------------------------------------------------------
+# The order of refusals
+
+
+PROGRAM_REFUSALS = range(1, 9)
+
+
+def order_of_refusals(operation, rng):
+    """Faults in program, set, rule number and room together: the first in order is given."""
+    of_program = [number for number in operation.refusals if number in PROGRAM_REFUSALS]
+    of_set = [number for number in (10, 12, 11) if number in operation.refusals]
+    late = [number for number in (9, 13) if number in operation.refusals]
+    if operation.group == "filter":
+        late = []   # its 9 depends on the program: see near_filter_output
+    for numbers in product([None] + of_program, [None] + of_set, [None] + late):
+        present = [number for number in numbers if number is not None]
+        for run in range(3 if present else 0):
+            case = with_faults(operation, rng, *numbers)
+            yield case._replace(name=f"faults-{'-'.join(map(str, present))}-{run}",
+                                stated=present[0])
+
+
+def with_faults(operation, rng, of_program, of_set, late):
+    """A case with the faults asked for; the late ones: no room, or no such rule."""
+    case = Case("", operation, small_program(operation), small_set(operation))
+    if of_program is not None:
+        case = case._replace(program=programs.faulty_program(operation.form, rng, of_program))
+    if of_set is not None:
+        faulty = literal_sets.faulty_set(operation.form, operation.set_limit(), rng, of_set)
+        case = case._replace(literals=faulty)
+    if operation.group == "show":
+        return case._replace(rule=1 if late is None else rng.choice((0, 99_999, FAR_RULE)))
+    return ample(case) if late is None else case
+
+
+def one_refusal_each(operation, rng):
+    """Enough cases of each refusal number that the operation can give."""
+    for number, run in product(operation.refusals, range(PER_REFUSAL)):
+        case = refused_case(operation, rng, number)
+        yield case._replace(name=f"random-fault-{number}-{run}", stated=number)
+
+
+def refused_case(operation, rng, number):
+    if number in PROGRAM_REFUSALS:
+        return with_faults(operation, rng, number, None, None)
+    if number in (10, 11, 12):
+        return with_faults(operation, rng, None, number, None)
+    if number == 13:
+        return with_faults(operation, rng, None, None, number)
+    if operation.group == "filter":
+        rules = programs.longest_source_rules()[:rng.randint(61, 63)]
+        return Case("", operation, programs.program(rules))
+    case = with_faults(operation, rng, None, None, None)
+    return case._replace(room=rng.randrange(needed_room(case)))
+
+
+# ---------------------------------------------------------------------------------------------
+# What is particular to an operation
+
+
+def nothing_more(operation, rng):
+    return iter(())
+
+
+def shown_rules(operation, rng):
+    """First, last, one past the last, none, and the largest rule number."""
+    form = operation.form
+    stock = dict(programs.small_samples(form)) | dict(programs.longest(form))
+    stock["empty"] = programs.program([])
+    stock["most-rules"] = programs.program([strict()] * form.rules)
+    for name, program in stock.items():
+        last = int.from_bytes(program.data[-2:], "big")
+        for number in (0, 1, 2, last // 2, last - 1, last, last + 1, last + 256, 65_536, 2**31,
+                       FAR_RULE):
+            shown = 1 <= number <= last
+            if number >= 0:
+                yield Case(f"{name}-rule-{number}-of-{last}", operation, program, rule=number,
+                           stated=ACCEPTED if shown else (13, 0))
+    for name, program in programs.small_samples(form).items():
+        for number in range(int.from_bytes(program.data[-2:], "big") + 2):
+            yield Case(f"{name}-rule-{number}", operation, program, rule=number)
+
+
+def translations(operation, rng):
+    stock = {"m1": samples.M1, "m3": samples.M3, "m4": samples.M4, "m5": samples.M5,
+             "m6": samples.M6, "m8": samples.M8, "empty": [], "mixed": programs.mixed_source(),
+             "repeated-head": [defeasible(9, [atom(3), atom(3), negated(3)], [atom(3)], [atom(3)])],
+             "rule-256": [strict()] * 255 + [defeasible(1, [atom(1)])],
+             "widest-rule": programs.longest_source_rules()[:1],
+             "longest": programs.longest_source_rules()}
+    for name, rules in stock.items():
+        yield from with_rooms(Case(name, operation, programs.program(rules)))
+
+
+def filtered(operation, rng):
+    """Around the filter's own buffer of 65,536 bytes, and beyond its input buffer."""
+    for name, rules in (("m1", samples.M1), ("m3", samples.M3), ("empty", [])):
+        yield Case(name, operation, programs.program(rules), stated=ACCEPTED)
+    wide = programs.longest_source_rules()
+    for count in (52, 53, 60, 61, 256):
+        yield Case(f"widest-rules-{count}", operation, programs.program(wide[:count]),
+                   stated=ACCEPTED if 1_240 * count + 4 <= 65_536 else (9, 0))
+    yield from near_filter_output(operation)
+    longest = programs.longest_of(SOURCE)
+    yield Case("far-too-long", operation, longest + longest + longest, stated=(1, 0))
+
+
+def near_filter_output(operation):
+    """Translations that just fit: 52 widest rules, and strict rules for the rest."""
+    wide = programs.longest_source_rules()[:52]
+    for length in range(65_532, 65_541):
+        rules = strict_rules_of_length(length - (1_240 * 52 + 4))
+        yield Case(f"translation-of-{length}", operation, programs.program(wide + rules),
+                   stated=ACCEPTED if length <= 65_536 else (9, 0))
+
+
+def strict_rules_of_length(length):
+    """Strict rules whose records have this length together."""
+    for count in range(1, 200):
+        literals, odd = divmod(length - 7 * count, 5)
+        if odd == 0 and 0 <= literals <= 16 * count:
+            shares = [literals // count + (number < literals % count) for number in range(count)]
+            return [strict([atom(1)] * share) for share in shares]
+    raise ValueError(f"no strict rules have {length} bytes")
+
+
+def quotients(operation, rng):
+    """Sets that remove rules and heads, few and all of them."""
+    form = operation.form
+    small = programs.mixed_source() if form is SOURCE else programs.mixed_plain()
+    literals = sorted(samples.literals_of(small))
+    for run in range(60):
+        chosen = rng.sample(literals, rng.randint(0, len(literals)))
+        yield ample(Case(f"mixed-{run}", operation, programs.program(small), literal_set(chosen)))
+    for name, chosen in (("nothing", set()), ("everything", set(literals))):
+        yield from with_rooms(Case(f"mixed-{name}", operation, programs.program(small),
+                                   literal_set(chosen)))
+    yield from large_quotients(operation, rng)
+
+
+def large_quotients(operation, rng):
+    for name, program in programs.longest(operation.form).items():
+        untouched = literal_sets.spread_set(operation.form, 5)
+        yield from with_rooms(Case(f"{name}-few", operation, program, untouched))
+        many = literal_sets.spread_set(operation.form, operation.set_limit())
+        yield from with_rooms(Case(f"{name}-many", operation, program, many))
+    if operation.form is SOURCE:
+        wide = programs.longest_source_rules()
+        for share in (3, 16):
+            marks = {defeated(rule.tag, head) for rule in wide[:62] for head in rule.heads[:share]}
+            yield ample(Case(f"longest-{share}-heads-defeated", operation, programs.program(wide),
+                             literal_set(marks)))
+
+
+def extensions(operation, rng):
+    one, two = atom(1), atom(2)
+    yield from with_rooms(Case("m4", operation, programs.program(samples.M4), literal_set({one})))
+    yield from with_rooms(Case("m5", operation, programs.program(samples.M5),
+                               literal_set({two, defeated(7, one)})))
+    for run in range(150):
+        rules = samples.random_source(rng, programs.random_shape(SOURCE, rng, rng.randint(1, 12)))
+        chosen = samples.random_subset(rng, samples.literals_of(rules), 40)
+        yield ample(Case(f"touching-{run}", operation, programs.program(rules),
+                         literal_set(chosen)))
+    for name, rules, chosen in large_extensions(rng):
+        yield from with_rooms(Case(name, operation, programs.program(rules), literal_set(chosen)))
+
+
+def large_extensions(rng):
+    """All options hold: 4,096 derivation marks; all rules defeated; marks met many times."""
+    options = [atom(number) for number in range(1, 501)]
+    options += [negated(number) for number in range(1, 501)]
+    wide = programs.longest_source_rules()
+    yield "all-options", wide, options
+    shuffled = rng.sample(wide, len(wide))
+    yield "all-options-shuffled", shuffled, options
+    single = [defeasible(200 - number % 200, [negated(500 - number)]) for number in range(256)]
+    yield "all-rules-defeated", single, {defeated(rule.tag, rule.heads[0]) for rule in single}
+    yield "one-mark-256-times", [defeasible(1, [atom(1)] * 16)] * 256, [atom(1)]
+    half = {defeated(rule.tag, head) for rule in wide[:40] for head in rule.heads[::2]}
+    yield "half-defeated", wide, set(options[:600]) | half
+
+
+def restrictions(operation, rng):
+    kinds = [set(samples.all_literals((kind,))) for kind in (0, 1, 6)]
+    stock = {"empty": set(), "only-atoms": kinds[0], "only-rules": kinds[2],
+             "atoms-and-rules": kinds[0] | kinds[1] | kinds[2],
+             "spread-5352": literal_sets.spread(PLAIN, 5_352),
+             "no-kinds-above-3": set(islice(samples.all_literals((2, 3)), 5_352)),
+             "only-derived": set(islice(samples.all_literals((4, 5)), 99_000, 104_352)),
+             "one-of-each": set(literal_sets.few(PLAIN))}
+    for name, chosen in stock.items():
+        yield from with_rooms(Case(name, operation, NOTHING, literal_set(chosen)))
+    everything = sorted(stock["spread-5352"])
+    for run in range(60):
+        chosen = rng.sample(everything, rng.randint(0, 40))
+        yield from with_rooms(Case(f"random-{run}", operation, NOTHING, literal_set(chosen)))
+
+
+def checks(operation, rng):
+    """Every verdict; the room is that of the set's record, whatever is written."""
+    for number, proposal in enumerate(verdicts.proposals(operation.form, rng)):
+        case = Case(proposal.name, operation, programs.program(proposal.rules),
+                    literal_set(proposal.literals), stated=proposal.verdict or None)
+        exact = len(case.literals)
+        yield case._replace(room=exact + number % 3)
+        if number % 5 == 0:
+            yield case._replace(name=f"{case.name}-room-one-short", room=exact - 1, stated=(9, 0))
+    chosen = literal_set(verdicts.stock(operation.form, CHECKED_LITERALS))
+    for name, program in programs.longest(operation.form).items():
+        yield ample(Case(f"{name}-largest-set", operation, program, chosen))
+        yield ample(Case(f"{name}-empty-set", operation, program, literal_set(())))
+
+
+PARTICULAR = {"read": nothing_more, "show": shown_rules, "translate": translations,
+              "filter": filtered, "quotient": quotients, "extend": extensions,
+              "restrict": restrictions, "check": checks}

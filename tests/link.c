@@ -1,0 +1,19 @@
+/* The library links from C by its header, and answers as document 01 says: M1's source has one rule, whose record is
+ * the first 12 bytes; an empty slice is refusal 2 at place 0. */
+#include "../include/aspda.h"
+
+#include <stdio.h>
+
+int main(void)
+{
+    const uint8_t source[] = {0x44, 0x3A, 0, 7, 1, 0, 0, 0, 0, 0, 0, 1, 0x45, 0x3A, 0, 1};
+    uint64_t rules = aspda_read_source(source, sizeof source);
+    uint64_t shown = aspda_show_source(source, sizeof source, 1);
+    uint64_t refused = aspda_read_plain(source, 0);
+
+    if (ASPDA_IS_REFUSAL(rules) || rules != 1) return 1;
+    if (ASPDA_SHOWN_START(shown) != 0 || ASPDA_SHOWN_LENGTH(shown) != 12) return 2;
+    if (!ASPDA_IS_REFUSAL(refused) || ASPDA_REFUSAL_NUMBER(refused) != 2 || ASPDA_REFUSAL_PLACE(refused) != 0) return 3;
+    puts("link.c: linked and answered");
+    return 0;
+}

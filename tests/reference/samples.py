@@ -1,0 +1,143 @@
+"""Programs and sets for tests: the document's marked examples, and random ones.
+
+Random programs draw their literals from few atoms and tags, so that rules and sets meet; the
+atoms and tags themselves lie anywhere in their ranges.
+"""
+
+from typing import NamedTuple
+
+from aspda import (ATOMS, TAGS, NUMBERED_RULES, Literal, atom, defeasible, defeated, derived,
+                   negated, rule_defeated, strict)
+
+
+# The programs of M1 to M9; the sets are in the self-test.
+M1 = [defeasible(7, [atom(1)])]
+M3 = [
+    defeasible(1, [atom(1), atom(2), atom(3)]),
+    defeasible(2, [atom(4), atom(5)]),
+    strict([defeated(2, atom(4))], [atom(1)]),
+    strict([defeated(2, atom(5))], [atom(1)]),
+    strict([defeated(2, atom(5))], [atom(2)]),
+]
+M4 = [strict([atom(1)]), defeasible(7, [atom(1)], [atom(2)])]
+M5 = [defeasible(7, [atom(1)]), defeasible(7, [atom(2)]), strict([defeated(7, atom(1))])]
+M6 = [strict([atom(1), atom(2)])]
+M8 = [strict()]
+M9 = []
+
+
+class Shape(NamedTuple):
+    """How large a random program is: numbers of rules, atoms and tags, and the most literals."""
+
+    rules: int
+    atoms: int = 3
+    tags: int = 2
+    heads: int = 2
+    positives: int = 2
+    nafs: int = 2
+
+
+class Vocabulary(NamedTuple):
+    """The atoms, tags and rule numbers that a random program uses."""
+
+    atoms: list
+    tags: list
+    rule_numbers: list
+
+
+def random_vocabulary(rng, shape):
+    return Vocabulary(rng.sample(ATOMS, shape.atoms), rng.sample(TAGS, shape.tags),
+                      rng.sample(NUMBERED_RULES, min(len(NUMBERED_RULES), shape.rules + 1)))
+
+
+def random_option(rng, words):
+    """An atom or a negated atom: what the head of a defeasible rule may hold."""
+    make = negated if rng.random() < 0.3 else atom
+    return make(rng.choice(words.atoms))
+
+
+def random_source_literal(rng, words):
+    option = random_option(rng, words)
+    if rng.random() < 0.3:
+        return defeated(rng.choice(words.tags), option)
+    return option
+
+
+def random_plain_literal(rng, words):
+    pick = rng.random()
+    if pick < 0.6:
+        return random_source_literal(rng, words)
+    if pick < 0.85:
+        return derived(rng.choice(words.tags), random_option(rng, words))
+    return rule_defeated(rng.choice(words.rule_numbers))
+
+
+def several(rng, least, most, pick):
+    return [pick() for _ in range(rng.randint(least, most))]
+
+
+def random_strict_rule(rng, shape, literal):
+    return strict(several(rng, 0, shape.heads, literal), several(rng, 0, shape.positives, literal),
+                  several(rng, 0, shape.nafs, literal))
+
+
+def random_defeasible_rule(rng, shape, words, literal):
+    return defeasible(rng.choice(words.tags),
+                      several(rng, 1, shape.heads, lambda: random_option(rng, words)),
+                      several(rng, 0, shape.positives, literal),
+                      several(rng, 0, shape.nafs, literal))
+
+
+def random_defeat_rule(rng, shape, marks, literal):
+    """A strict rule whose head is the defeat mark of some option of the program."""
+    return strict([rng.choice(marks)], several(rng, 0, min(1, shape.positives), literal),
+                  several(rng, 0, min(1, shape.nafs), literal))
+
+
+def random_source(rng, shape):
+    words = random_vocabulary(rng, shape)
+
+    def literal():
+        return random_source_literal(rng, words)
+
+    rules = [random_defeasible_rule(rng, shape, words, literal) if rng.random() < 0.5
+             else random_strict_rule(rng, shape, literal) for _ in range(shape.rules)]
+    marks = sorted(defeat_marks(rules))
+    for place, rule in enumerate(rules):
+        if not rule.is_defeasible() and marks and rng.random() < 0.5:
+            rules[place] = random_defeat_rule(rng, shape, marks, literal)
+    return rules
+
+
+def defeat_marks(rules):
+    return {defeated(rule.tag, head) for rule in rules if rule.is_defeasible()
+            for head in rule.heads}
+
+
+def random_plain(rng, shape):
+    words = random_vocabulary(rng, shape)
+    return [random_strict_rule(rng, shape, lambda: random_plain_literal(rng, words))
+            for _ in range(shape.rules)]
+
+
+def literals_of(rules):
+    """Every literal that decides what a program's quotients are and whether they hold."""
+    found = defeat_marks(rules)
+    for rule in rules:
+        found.update(rule.heads, rule.positives, rule.nafs)
+    return found
+
+
+def random_subset(rng, literals, most):
+    ordered = sorted(literals)
+    return set(rng.sample(ordered, rng.randint(0, min(most, len(ordered)))))
+
+
+def all_literals(kinds):
+    """All literals of the kinds given, ascending: the stock for large sets."""
+    for kind in kinds:
+        tags = (0,) if kind in (0, 1, 6) else TAGS
+        numbers = NUMBERED_RULES if kind == 6 else ATOMS
+        for tag in tags:
+            for number in numbers:
+                yield Literal(kind, tag, number)

@@ -1,0 +1,354 @@
+"""Tests of the reference itself: the marked examples, the limits, and agreement with itself.
+
+    python3 tests/reference/selftest.py
+
+The expected values stand here as the document gives them. Prints 'N checks, 0 failed'.
+"""
+
+import random
+import sys
+
+sys.dont_write_bytecode = True
+
+import samples
+from aspda import (BROKEN, CLASH, PLAIN, REFUSED, SMALLER, SOURCE, YES, answer_sets, atom,
+                   check_plain, check_source, defeasible, defeated, derived, encoded_literals,
+                   encoded_program, encoded_set, extend, extension, filter,
+                   first_smaller_by_brute_force, first_smaller_by_search, is_answer_set,
+                   is_interpretation, negated, quotient, quotient_plain, quotient_source,
+                   read_plain, read_rules, read_source, restrict, restriction, rule_defeated,
+                   show_plain, show_source, strict, translate, translation)
+
+SEED = 20_240_601
+MATCHED_SOURCES = 400
+COMPARED_SEARCHES = 400
+
+
+class Tally:
+    """Counts checks, and says which failed."""
+
+    def __init__(self):
+        self.checks = 0
+        self.failed = 0
+
+    def same(self, name, got, expected):
+        self.checks += 1
+        if got != expected:
+            self.failed += 1
+            print(f"failed: {name}: expected {expected!r}, got {got!r}")
+
+
+def refused(number, place):
+    return REFUSED + (number << 32) + place
+
+
+def pattern(length):
+    return bytes((7 * place + 3) % 256 for place in range(length))
+
+
+# ---------------------------------------------------------------------------------------------
+# The marked examples
+
+M1_SOURCE = bytes.fromhex("44 3A 00 07 01 00 00 00 00 00 00 01 45 3A 00 01")
+M1_PLAIN = bytes.fromhex("""
+    53 3A 00 00 01 00 01 04 00 07 00 01 06 00 00 00 01
+    53 3A 00 00 01 01 00 06 00 00 00 01 02 00 07 00 01
+    53 3A 00 00 01 01 00 00 00 00 00 01 04 00 07 00 01
+    53 3A 00 00 01 01 01 04 00 07 00 01 00 00 00 00 01 02 00 07 00 01
+    53 3A 00 00 00 02 00 04 00 07 00 01 02 00 07 00 01
+    45 3A 00 05""")
+
+
+def marked_example_1(tally):
+    tally.same("M1 source", encoded_program(samples.M1), M1_SOURCE)
+    tally.same("M1 length", len(M1_PLAIN), 94)
+    tally.same("M1 filter", filter(M1_SOURCE), M1_PLAIN)
+    for room in (94, 95, 200):
+        lent = pattern(room)
+        tally.same(f"M1 into {room} bytes", translate(M1_SOURCE, out=lent),
+                   (94, M1_PLAIN + lent[94:]))
+    for room in (93, 0):
+        lent = pattern(room)
+        tally.same(f"M1 into {room} bytes", translate(M1_SOURCE, out=lent), (refused(9, 0), lent))
+
+
+def marked_example_2(tally):
+    tally.same("M2 filter", filter(b""), bytes.fromhex("52 3A 02 00 00 00 00"))
+
+
+def marked_example_3(tally):
+    marks = defeated(2, atom(4)), defeated(2, atom(5))
+    given = [atom(number) for number in range(1, 6)] + list(marks)
+    expected = [{atom(1), *marks}, {atom(2), atom(4), marks[1]}, {atom(3), atom(4)},
+                {atom(3), atom(5)}]
+    found = answer_sets(samples.M3, given)
+    tally.same("M3 number of answer sets", len(found), 4)
+    tally.same("M3 answer sets", set(found), set(map(frozenset, expected)))
+    source = encoded_program(samples.M3)
+    tally.same("M3 source length", len(source), 94)
+    word, buffer = translate(source, out=bytes(500))
+    tally.same("M3 translation length", word, 433)
+    tally.same("M3 translation rules", read_plain(buffer[:word]).word, 22)
+    for answer_set in expected:
+        proposed = encoded_set(answer_set)
+        tally.same("M3 check", check_source(source, proposed, out=bytes(100)).word, YES)
+
+
+def extended(rules, literals):
+    lent = bytes(1000)
+    word, buffer = extend(encoded_program(rules), encoded_set(literals), out=lent)
+    return buffer[:word]
+
+
+def marked_examples_4_and_5(tally):
+    one, two = atom(1), atom(2)
+    tally.same("M4 extension", extended(samples.M4, {one}), encoded_set({one, derived(7, one)}))
+    given = {two, defeated(7, one)}
+    tally.same("M5 extension", extended(samples.M5, given),
+               encoded_set(given | {derived(7, two), rule_defeated(1)}))
+
+
+def check_example(tally, name, rules, literals, word, witness=None):
+    """A check of a source: the word, and the lent buffer with a witness or as it came."""
+    proposed = encoded_set(literals)
+    lent = pattern(len(proposed))
+    written = b"" if witness is None else encoded_set(witness)
+    expected = (word + len(written), written + lent[len(written):])
+    tally.same(name, check_source(encoded_program(rules), proposed, out=lent), expected)
+
+
+def marked_examples_6_to_9(tally):
+    one, two = atom(1), atom(2)
+    check_example(tally, "M6", samples.M6, {one, two}, SMALLER, {two})
+    check_example(tally, "M7", [], {one, negated(1)}, CLASH + 1)
+    check_example(tally, "M7 with a rule", samples.M6, {one, negated(1)}, CLASH + 1)
+    check_example(tally, "M8", samples.M8, set(), BROKEN + 1)
+    tally.same("M9 source", encoded_program(samples.M9), bytes.fromhex("45 3A 00 00"))
+    check_example(tally, "M9 empty", samples.M9, set(), YES)
+    check_example(tally, "M9 one", samples.M9, {one}, SMALLER, set())
+
+
+def kinds_of_literals(tally):
+    """Each kind's bytes: kind, tag, atom."""
+    for text, literal in (
+            ("00 00 00 01 F4", atom(500)), ("01 00 00 00 01", negated(1)),
+            ("02 00 C8 00 02", defeated(200, atom(2))), ("03 00 01 00 02", defeated(1, negated(2))),
+            ("04 00 C8 00 02", derived(200, atom(2))), ("05 00 01 00 02", derived(1, negated(2))),
+            ("06 00 00 01 00", rule_defeated(256))):
+        tally.same(f"bytes of {literal}", encoded_literals([literal]), bytes.fromhex(text))
+    rule = strict([atom(1)], [negated(2)], [defeated(3, atom(4))])
+    tally.same("bytes of a rule", encoded_program([rule]), bytes.fromhex(
+        "53 3A 00 00 01 01 01 00 00 00 00 01 01 00 00 00 02 02 00 03 00 04 45 3A 00 01"))
+    tally.same("bytes of a set", encoded_set({negated(2), atom(300)}),
+               bytes.fromhex("41 3A 00 02 00 00 00 01 2C 01 00 00 00 02"))
+
+
+# ---------------------------------------------------------------------------------------------
+# Limits
+
+
+def read_word(form, data):
+    return (read_source if form is SOURCE else read_plain)(data).word
+
+
+def rule_limits(tally):
+    for form, limit in ((SOURCE, 256), (PLAIN, 12_800)):
+        rules = [strict()] * (limit + 1)
+        tally.same(f"{limit} rules", read_word(form, encoded_program(rules[1:])), limit)
+        tally.same(f"{limit + 1} rules", read_word(form, encoded_program(rules)),
+                   refused(4, 7 * limit))
+
+
+def count_limits(tally):
+    one = [atom(1)]
+    for form, counts in ((SOURCE, (16, 16, 16)), (PLAIN, (16, 16, 17))):
+        for place, name in enumerate(("heads", "positives", "nafs")):
+            for count, word in ((counts[place], 1), (counts[place] + 1, refused(4, 0))):
+                literals = [[], [], []]
+                literals[place] = one * count
+                data = encoded_program([strict(*literals)])
+                tally.same(f"{count} {name}", read_word(form, data), word)
+    heads = one * 16
+    tally.same("16 defeasible heads", read_word(SOURCE, encoded_program([defeasible(7, heads)])), 1)
+    tally.same("17 defeasible heads",
+               read_word(SOURCE, encoded_program([defeasible(7, heads + one)])), refused(4, 0))
+
+
+def number_limits(tally):
+    for number, word in ((0, refused(5, 7)), (1, 1), (500, 1), (501, refused(5, 7))):
+        for form in (SOURCE, PLAIN):
+            tally.same(f"atom {number}", read_word(form, encoded_program([strict([atom(number)])])),
+                       word)
+    for tag, word in ((0, refused(5, 7)), (1, 1), (200, 1), (201, refused(5, 7))):
+        mark = strict([defeated(tag, atom(1))])
+        tally.same(f"mark with tag {tag}", read_word(SOURCE, encoded_program([mark])), word)
+    for tag, word in ((1, 1), (200, 1), (201, refused(6, 0))):
+        tally.same(f"rule with tag {tag}",
+                   read_word(SOURCE, encoded_program([defeasible(tag, [atom(1)])])), word)
+    for number, word in ((0, refused(5, 7)), (1, 1), (256, 1), (257, refused(5, 7))):
+        data = encoded_program([strict([rule_defeated(number)])])
+        tally.same(f"rule number {number}", read_word(PLAIN, data), word)
+        tally.same(f"rule number {number} in a source", read_word(SOURCE, data), refused(5, 7))
+
+
+def wide_program(rules, tag):
+    """Rules with every count at the source form's limit."""
+    literals = [atom(number) for number in range(1, 17)]
+    return [defeasible(tag, literals, literals, literals)] * rules
+
+
+def length_limits(tally):
+    source = encoded_program(wide_program(256, 7))
+    tally.same("longest source", len(source), 63_236)
+    tally.same("longest source is read", read_word(SOURCE, source), 256)
+    tally.same("source too long", read_word(SOURCE, source + b"\0"), refused(1, 0))
+    word, plain = translate(source, out=bytes(317_445))
+    tally.same("longest translation", word, 317_444)
+    tally.same("longest translation is read", read_word(PLAIN, plain[:word]), 12_800)
+    tally.same("plain too long", read_word(PLAIN, plain), refused(1, 0))
+    tally.same("translation one short", translate(source, out=bytes(317_443)).word, refused(9, 0))
+
+
+def set_limits(tally):
+    empty = encoded_program([])
+    for size, word in ((1_000, 4), (1_001, refused(12, 0))):
+        proposed = encoded_set(first_literals(size, SOURCE))
+        tally.same(f"source set of {size}", quotient_source(empty, proposed, out=bytes(4)).word,
+                   word)
+        expected = word if word >= REFUSED else len(proposed)
+        tally.same(f"extend set of {size}", extend(empty, proposed, out=bytes(6_000)).word,
+                   expected)
+    for size, word in ((5_352, 4), (5_353, refused(12, 0))):
+        proposed = encoded_set(first_literals(size, PLAIN))
+        tally.same(f"plain set of {size}", quotient_plain(empty, proposed, out=bytes(4)).word, word)
+        expected = word if word >= REFUSED else len(proposed)
+        tally.same(f"restrict set of {size}", restrict(proposed, out=bytes(30_000)).word, expected)
+    for size, word in ((64, SMALLER + 4), (65, refused(12, 0))):
+        proposed = encoded_set(first_literals(size, SOURCE))
+        for check in (check_source, check_plain):
+            tally.same(f"check set of {size}", check(empty, proposed, out=bytes(400)).word, word)
+
+
+def first_literals(size, form):
+    stock = samples.all_literals(form.kinds)
+    return [next(stock) for _ in range(size)]
+
+
+def show_limits(tally):
+    source = encoded_program(samples.M3)
+    for number, word in ((1, 22), (2, (22 << 32) + 17), (5, (73 << 32) + 17)):
+        tally.same(f"rule {number}", show_source(source, number).word, word)
+    for number in (0, 6, 2**32 - 1):
+        tally.same(f"rule {number}", show_source(source, number).word, refused(13, 0))
+    tally.same("plain rule 4", show_plain(M1_PLAIN, 4).word, (51 << 32) + 22)
+
+
+# ---------------------------------------------------------------------------------------------
+# Agreement with itself
+
+
+def random_shape(rng):
+    return samples.Shape(rules=rng.randint(1, 4), atoms=rng.randint(1, 3), tags=rng.randint(1, 2))
+
+
+def matched_source(rng, most):
+    """A random source whose translation has few enough literals to try all sets of them."""
+    while True:
+        rules = samples.random_source(rng, random_shape(rng))
+        if len(samples.literals_of(translation(rules))) <= most:
+            return rules
+
+
+def one_to_one_match(tally, rng):
+    """Answer sets of source and translation, by trying all sets on both sides."""
+    several = 0
+    for run in range(MATCHED_SOURCES):
+        rules = matched_source(rng, 11 if run % 20 == 0 else 9)
+        plain = translation(rules)
+        source_sets = answer_sets(rules, samples.literals_of(rules))
+        plain_sets = answer_sets(plain, samples.literals_of(plain))
+        several += len(source_sets) > 1
+        extensions = [extension(rules, answer_set) for answer_set in source_sets]
+        tally.same(f"match {rules}", sorted(map(sorted, extensions)),
+                   sorted(map(sorted, plain_sets)))
+        tally.same(f"restriction {rules}", [restriction(found) for found in extensions],
+                   source_sets)
+        translation_as_bytes(tally, rules, plain)
+    tally.same("some sources with several answer sets", several > MATCHED_SOURCES // 20, True)
+
+
+def translation_as_bytes(tally, rules, plain):
+    """What translate writes is read as the translation, and its length is the document's sum."""
+    source = encoded_program(rules)
+    word, buffer = translate(source, out=bytes(13 * len(source)))
+    tally.same(f"translation {rules}", read_rules(PLAIN, buffer[:word]), plain)
+    tally.same(f"length {rules}", word, 4 + sum(map(translated_length, rules)))
+
+
+def translated_length(rule):
+    heads, bodies = len(rule.heads), len(rule.positives) + len(rule.nafs)
+    if rule.is_defeasible():
+        return 66 * heads + 5 * bodies + 24
+    return 7 + 5 * (heads + bodies)
+
+
+def brute_force_and_search(tally, rng):
+    """The two ways to the first smaller model, up to 16 literals."""
+    for run in range(COMPARED_SEARCHES):
+        large = run % 20 == 0
+        shape = samples.Shape(rules=rng.randint(20, 40) if large else rng.randint(1, 25),
+                              atoms=12 if large else rng.randint(2, 6), heads=3, positives=3,
+                              nafs=1)
+        rules = samples.random_plain(rng, shape)
+        literals = sorted(samples.literals_of(rules))
+        proposed = frozenset(rng.sample(literals, min(len(literals), 16 if large else 9)))
+        left = quotient(rules, proposed)
+        tally.same(f"smaller {rules} {sorted(proposed)}",
+                   first_smaller_by_search(left, proposed),
+                   first_smaller_by_brute_force(left, proposed))
+
+
+def verdicts_and_answer_sets(tally, rng):
+    """The check says yes exactly of the answer sets, in both forms."""
+    for run in range(100):
+        source_form = run % 2 == 0
+        make = samples.random_source if source_form else samples.random_plain
+        check = check_source if source_form else check_plain
+        rules = make(rng, samples.Shape(rules=rng.randint(1, 5)))
+        literals = samples.literals_of(rules)
+        for _ in range(5):
+            proposed = samples.random_subset(rng, literals, 7)
+            word = check(encoded_program(rules), encoded_set(proposed), out=bytes(100)).word
+            tally.same(f"yes {rules} {sorted(proposed)}", word == YES,
+                       is_answer_set(rules, frozenset(proposed)))
+            tally.same(f"clash {rules} {sorted(proposed)}", word >> 32 == 1,
+                       not is_interpretation(proposed))
+
+
+def reading_and_writing(tally, rng):
+    """Reading gives back what was encoded, and each proper prefix is refused as cut."""
+    for run in range(60):
+        form = SOURCE if run % 2 == 0 else PLAIN
+        make = samples.random_source if form is SOURCE else samples.random_plain
+        rules = make(rng, samples.Shape(rules=rng.randint(0, 4)))
+        data = encoded_program(rules)
+        tally.same(f"read {rules}", read_rules(form, data), rules)
+        cut = rng.randrange(len(data))
+        tally.same(f"cut {rules}", read_word(form, data[:cut]) >> 32, refused(2, 0) >> 32)
+
+
+def main():
+    tally = Tally()
+    for part in (marked_example_1, marked_example_2, marked_example_3, marked_examples_4_and_5,
+                 marked_examples_6_to_9, kinds_of_literals, rule_limits, count_limits,
+                 number_limits, length_limits, set_limits, show_limits):
+        part(tally)
+    for part in (one_to_one_match, brute_force_and_search, verdicts_and_answer_sets,
+                 reading_and_writing):
+        part(tally, random.Random(f"{SEED} {part.__name__}"))
+    print(f"{tally.checks} checks, {tally.failed} failed")
+    return 1 if tally.failed else 0
+
+
+if __name__ == "__main__":
+    sys.exit(main())

@@ -1,0 +1,48 @@
+#!/bin/sh
+# Everything that runs: the reference's self-test, the vectors, the runner against the library.
+# Needs python3, rustc, a C compiler, and target/staticlib/libaspda.a (rt staticlib aspda).
+
+# The operations that the library exports; add an operation when it is exported. Of these: read show
+# translate quotient extend restrict check, and filter for the program target/bin/filter.
+OPS=${OPS:-"read show"}
+
+set -eu
+cd "$(dirname "$0")/.."
+LIBRARY=${LIBRARY:-target/staticlib}
+FILTER=${FILTER:-target/bin/filter}
+export PYTHONDONTWRITEBYTECODE=1
+
+build=$(mktemp -d)
+trap 'rm -rf "$build"' EXIT
+
+say() { printf '%s\n' "tests: $*"; }
+
+if [ ! -f "$LIBRARY/libaspda.a" ]; then
+    say "no $LIBRARY/libaspda.a: run 'rt staticlib aspda' first"
+    exit 2
+fi
+
+say "self-test of the reference"
+python3 tests/reference/selftest.py
+
+names=$(printf '%s' "$OPS" | tr ' ' ',')
+say "vectors for $names"
+python3 tests/vectors.py "$build/vectors" --ops "$names"
+
+say "building the runner"
+flags=""
+words=""
+for op in $OPS; do
+    flags="$flags --cfg op_$op"
+    if [ "$op" = filter ]; then words="--filter $FILTER"; fi
+done
+# shellcheck disable=SC2086  # the flags are words
+rustc --edition 2021 -O $flags -L "native=$LIBRARY" -o "$build/runner" tests/runner/main.rs
+
+say "running the vectors"
+# shellcheck disable=SC2086
+"$build/runner" "$build/vectors" $words
+say "linking from C"
+cc -std=c11 -Wall -Wextra -Werror -o "$build/link" tests/link.c -L "$LIBRARY" -laspda
+"$build/link"
+say "all passed"
