@@ -1,7 +1,8 @@
-//! How fast reading is, beside a plain Rust reader of the same bytes, in one run.
-//! Both are built for release; the ratio is the proved reader's speed over the plain one's.
+//! How fast reading and translating are, beside plain Rust on the same bytes, in one run.
+//! Both are built for release; the ratio is the proved code's speed over the plain one's.
 
 mod plain_reader;
+mod plain_translator;
 
 use plain_reader::{Limits, PLAIN, SOURCE};
 use std::hint::black_box;
@@ -10,6 +11,7 @@ use std::time::Instant;
 extern "C" {
     fn aspda_read_source(p: *const u8, n: usize) -> u64;
     fn aspda_read_plain(p: *const u8, n: usize) -> u64;
+    fn aspda_translate(p: *const u8, n: usize, out: *mut u8, m: usize) -> u64;
 }
 
 /// A small repeatable generator, so that every run reads the same bytes.
@@ -31,7 +33,7 @@ fn literal(out: &mut Vec<u8>, numbers: &mut Numbers, kinds: u32) {
     out.extend(number.to_be_bytes());
 }
 
-/// A program of `counts.len()` rules with these head, positive and naf counts.
+/// A program of `counts.len()` rules with these head, positive and naf counts; `defeasible`: every other rule.
 fn program(counts: &[(u8, u8, u8)], defeasible: bool, kinds: u32) -> Vec<u8> {
     let mut numbers = Numbers(7);
     let mut out = Vec::new();
@@ -53,6 +55,11 @@ fn program(counts: &[(u8, u8, u8)], defeasible: bool, kinds: u32) -> Vec<u8> {
 /// The longest source: 256 rules of 16, 16 and 16 literals.
 fn source() -> Vec<u8> {
     program(&[(16, 16, 16); 256], true, 4)
+}
+
+/// Options alone: the source whose translation is longest beside it.
+fn options() -> Vec<u8> {
+    program(&[(16, 0, 0); 256], true, 4)
 }
 
 /// The longest plain program: 12,800 rules of three and four literals.
@@ -88,7 +95,47 @@ fn row(name: &str, bytes: &[u8], limits: &Limits, proved: unsafe extern "C" fn(*
     println!("{name:<14} {:>8} bytes  proved {:>8.1} MB/s  plain Rust {:>8.1} MB/s  ratio {:.2}", bytes.len(), mb / a, mb / b, b / a);
 }
 
+/// The best time of a call that fills `out`, which is cleared before each, outside the time.
+fn fill(best: &mut f64, out: &mut [u8], mut call: impl FnMut(&mut [u8]) -> u64) -> u64 {
+    out.fill(0);
+    let started = Instant::now();
+    let word = black_box(call(black_box(&mut *out)));
+    *best = best.min(started.elapsed().as_secs_f64());
+    word
+}
+
+/// Translating, by the output's bytes, and a copy of the same output.
+fn translate_row(name: &str, source: &[u8]) {
+    let room = 13 * source.len();
+    let (mut ours, mut theirs, mut copied) = (vec![0; room], vec![0; room], vec![0; room]);
+    let (mut a, mut b, mut c) = (f64::MAX, f64::MAX, f64::MAX);
+    let mut length = 0;
+    for _ in 0..2_000 {
+        let word = fill(&mut a, &mut ours, |out| unsafe {
+            aspda_translate(black_box(source).as_ptr(), source.len(), out.as_mut_ptr(), out.len())
+        });
+        let same = fill(&mut b, &mut theirs, |out| plain_translator::translate(black_box(source), out));
+        assert_eq!(word, same, "the two translators disagree on {name}");
+        length = word as usize;
+        fill(&mut c, &mut copied, |out| {
+            out[..length].copy_from_slice(black_box(&ours[..length]));
+            0
+        });
+    }
+    assert!(ours == theirs && ours == copied, "the two translators disagree on {name}");
+    let mb = length as f64 / 1e6;
+    println!(
+        "{name:<14} {length:>8} bytes  proved {:>8.1} MB/s  plain Rust {:>8.1} MB/s  ratio {:.2}  memcpy {:>8.1} MB/s",
+        mb / a,
+        mb / b,
+        b / a,
+        mb / c
+    );
+}
+
 fn main() {
     row("read source", &source(), &SOURCE, aspda_read_source);
     row("read plain", &plain(), &PLAIN, aspda_read_plain);
+    translate_row("translate all", &source());
+    translate_row("translate D:", &options());
 }

@@ -28,7 +28,7 @@ pub const SOURCE: Limits = Limits {
 
 pub const PLAIN: Limits = Limits { length: 317_444, rules: 12_800, nafs: 17, defeasible: false, kinds: 6, ..SOURCE };
 
-fn refusal(number: u64, place: usize) -> u64 {
+pub fn refusal(number: u64, place: usize) -> u64 {
     (1 << 63) + (number << 32) + place as u64
 }
 

@@ -22,6 +22,10 @@ extern "C" {
 uint64_t aspda_read_source(const uint8_t *p, size_t n);
 uint64_t aspda_read_plain(const uint8_t *p, size_t n);
 
+/* The translation of the source in p[0 .. n), written to out[0 .. m): the number of bytes written. It is at most thirteen
+ * times n. A refusal leaves out as it was; bytes behind the result are left as they were. */
+uint64_t aspda_translate(const uint8_t *p, size_t n, uint8_t *out, size_t m);
+
 /* Where the record of a rule lies, the rules being numbered from 1: start * 2^32 + length. */
 uint64_t aspda_show_source(const uint8_t *p, size_t n, uint32_t rule);
 uint64_t aspda_show_plain(const uint8_t *p, size_t n, uint32_t rule);

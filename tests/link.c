@@ -1,5 +1,5 @@
 /* The library links from C by its header, and answers as document 01 says: M1's source has one rule, whose record is
- * the first 12 bytes; an empty slice is refusal 2 at place 0. */
+ * the first 12 bytes, and translates into 94 bytes and 5 rules; an empty slice is refusal 2 at place 0. */
 #include "../include/aspda.h"
 
 #include <stdio.h>
@@ -14,6 +14,10 @@ int main(void)
     if (ASPDA_IS_REFUSAL(rules) || rules != 1) return 1;
     if (ASPDA_SHOWN_START(shown) != 0 || ASPDA_SHOWN_LENGTH(shown) != 12) return 2;
     if (!ASPDA_IS_REFUSAL(refused) || ASPDA_REFUSAL_NUMBER(refused) != 2 || ASPDA_REFUSAL_PLACE(refused) != 0) return 3;
+    uint8_t plain[95];
+    plain[94] = 0xAA;
+    uint64_t written = aspda_translate(source, sizeof source, plain, sizeof plain);
+    if (written != 94 || aspda_read_plain(plain, 94) != 5 || plain[94] != 0xAA) return 4;
     puts("link.c: linked and answered");
     return 0;
 }

@@ -1,10 +1,11 @@
 #!/bin/sh
 # Everything that runs: the reference's self-test, the vectors, the runner against the library.
-# Needs python3, rustc, a C compiler, and target/staticlib/libaspda.a (rt staticlib aspda).
+# Needs python3, rustc, a C compiler, target/staticlib/libaspda.a (rt staticlib aspda) and target/bin/filter
+# (rt check filter).
 
 # The operations that the library exports; add an operation when it is exported. Of these: read show
 # translate quotient extend restrict check, and filter for the program target/bin/filter.
-OPS=${OPS:-"read show"}
+OPS=${OPS:-"read show translate filter"}
 
 set -eu
 cd "$(dirname "$0")/.."
@@ -42,6 +43,19 @@ rustc --edition 2021 -O $flags -L "native=$LIBRARY" -o "$build/runner" tests/run
 say "running the vectors"
 # shellcheck disable=SC2086
 "$build/runner" "$build/vectors" $words
+case " $OPS " in *" filter "*)
+    say "the filter on files"
+    for input in tests/filter/*.in; do
+        "$FILTER" <"$input" >"$build/out"
+        cmp "$build/out" "${input%.in}.out"
+    done
+esac
+
+say "recorded answer sets of a solver, the traps, the examples"
+python3 tests/solver/compare.py --translate "$FILTER"
+python3 tests/solver/traps.py
+python3 tests/solver/examples.py --check
+
 say "linking from C"
 cc -std=c11 -Wall -Wextra -Werror -o "$build/link" tests/link.c -L "$LIBRARY" -laspda
 "$build/link"

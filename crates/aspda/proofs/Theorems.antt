@@ -1,17 +1,14 @@
 -- The claims, each from laws. Assumes nothing.
-use Prim.Native.Nat.{ℕ, _+_, _*_, _≤_}
+use Prim.Native.Nat.{ℕ, _*_, _≤_}
 use native.Mathlib.Omega.{arith}
 use native.Mathlib.Nat.{zero-add}
-use mathlib.Core.Path.{_≡_, refl, sym, _∙_, ap, subst}
-use mathlib.Core.Bool.{Bool, true, false, _&&_}
+use mathlib.Core.Path.{_≡_, sym, _∙_, ap}
 use mathlib.Core.List.{List}
-use lib.Dec.{T, leb, ltb, le→leb}
+use lib.Dec.{T, leb, le→leb}
 use lib.ListN.{length, take, drop}
-use borrow.Author.Tests.{le-ltb}
 use Rattle.buffer.specs.Bytes.{Bytes}
 use Rattle.buffer.specs.Write.{write}
 use Rattle.buffer.proofs.Laws.Write.{take-write, drop-write}
-use Rattle.literal.specs.declared.Limits.{Limits}
 use Rattle.literal.specs.Limits.{source, plain}
 use Rattle.semantics.specs.Rule.{Program}
 use Rattle.semantics.specs.Translation.{translation, programLength, translationLength}
@@ -22,9 +19,7 @@ use Rattle.semantics.proofs.Laws.Form.{Covers}
 use Rattle.semantics.proofs.Laws.Length.{length-translation, count-translation, thirteenfold}
 use Rattle.semantics.proofs.Laws.Room.{Room, translation-keeps, translation-short}
 use Rattle.semantics.proofs.FormMatch.{form-match}
-use Rattle.record.specs.declared.Written.the-variants.{Length, Refused}
-use Rattle.record.specs.declared.Reason.the-variants.{OutputShort}
-use Rattle.record.specs.Refusal.{refusal}
+use Rattle.record.specs.declared.Written.the-variants.{Length}
 use Rattle.record.specs.Result.{Result, accepted, andThen, Outcome, delivered}
 use Rattle.record.specs.Layout.{encodedProgram, keeps}
 use Rattle.record.specs.Reading.{parsed}

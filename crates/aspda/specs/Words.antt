@@ -1,12 +1,16 @@
 -- The 64-bit words that the exported functions answer. A refusal is 2^63 + number * 2^32 + place, all else is below 2^63.
--- In order: refusals; read; show; that a word holds its parts.
+-- In order: refusals; read; bytes written; show; that a word holds its parts.
 -- Assumes nothing.
 use Prim.Native.Nat.{ℕ, _+_, _*_, _<_}
+use mathlib.Core.Path.{_≡_}
+use mathlib.Core.List.{List}
 use Rattle.record.specs.declared.Refusal.{Refusal}
 use Rattle.record.specs.declared.Extent.{Extent}
 use Rattle.record.specs.declared.Reading.{Reading}
+use Rattle.record.specs.declared.Written.{Written}
 use Rattle.record.specs.declared.Shown.{Shown}
 use Rattle.record.specs.Refusal.{refusalNumber}
+use Rattle.record.specs.Result.{Outcome}
 
 -- a refusal, by number and place
 abbrev pub refusalWord : Refusal → ℕ
@@ -16,6 +20,16 @@ refusalWord x = 9223372036854775808 + refusalNumber x * 4294967296 + x .place
 abbrev pub readingWord : Reading → ℕ
 readingWord (Reading.Rules n) = n
 readingWord (Reading.Refused x) = refusalWord x
+
+-- translate, and each operation that writes a result: the bytes written
+abbrev pub writtenWord : Written → ℕ
+writtenWord (Written.Length n) = n
+writtenWord (Written.Refused x) = refusalWord x
+
+-- the word r and the lent buffer, as it is at the end, are those of an outcome
+pub record MeetsWord (o : Outcome) (r : ℕ) (out : List ℕ) : Type 0 where
+  pub answer : r ≡ writtenWord (o .answer)
+  pub buffer : out ≡ o .buffer
 
 -- show: the part's start and length
 abbrev pub extentWord : Extent → ℕ
@@ -36,6 +50,10 @@ ShortExtent e = e .start + e .size < 2147483648
 abbrev pub ShortReading : Reading → Type 0
 ShortReading (Reading.Rules n) = Unit
 ShortReading (Reading.Refused x) = ShortPlace x
+
+abbrev pub ShortWritten : Written → Type 0
+ShortWritten (Written.Length n) = Unit
+ShortWritten (Written.Refused x) = ShortPlace x
 
 abbrev pub ShortShown : Shown → Type 0
 ShortShown (Shown.At e) = ShortExtent e

@@ -2,15 +2,18 @@
 
 use crate::word::reading_word;
 use crate::word::shown_word;
+use crate::word::written_word;
 use record::read::read_plain;
 use record::read::read_source;
 use record::show::find_plain;
 use record::show::find_source;
+use translate::pass::translate_source;
 ghost use mathlib.Core.Path.{_≡_};
 ghost use Rattle.literal.specs.Limits.{source, plain};
 ghost use Rattle.record.specs.Reading.{reading};
 ghost use Rattle.record.specs.Show.{shown};
-ghost use Rattle.aspda.specs.Words.{readingWord, shownWord};
+ghost use Rattle.translate.specs.Translate.{translated};
+ghost use Rattle.aspda.specs.Words.{readingWord, shownWord, MeetsWord};
 
 // The number of rules of a source, or the refusal.
 #[no_mangle]
@@ -26,6 +29,14 @@ pub extern "C" fn aspda_read_plain(s: &[u8]) -> u64
     ensures { λ r. ⌜ r ≡ readingWord (reading plain (now (s .entry))) ⌝ }
 {
     reading_word(read_plain(s))
+}
+
+// The translation of a source, written to the start of `out`: its length, or the refusal.
+#[no_mangle]
+pub extern "C" fn aspda_translate(s: &[u8], out: &mut [u8]) -> u64
+    ensures { λ r. ⌜ MeetsWord (translated source (now (s .entry)) (now (out .entry))) r (now (out .exit)) ⌝ }
+{
+    written_word(translate_source(s, out))
 }
 
 // Where rule `number` of a source lies, or the refusal.

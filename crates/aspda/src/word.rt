@@ -4,9 +4,10 @@ use record::Extent;
 use record::Reading;
 use record::Refusal;
 use record::Shown;
+use record::Written;
 use record::number::reason_number;
 ghost use mathlib.Core.Path.{_≡_};
-ghost use Rattle.aspda.specs.Words.{refusalWord, readingWord, extentWord, shownWord, ShortPlace, ShortExtent, ShortReading, ShortShown};
+ghost use Rattle.aspda.specs.Words.{refusalWord, readingWord, writtenWord, extentWord, shownWord, ShortPlace, ShortExtent, ShortReading, ShortWritten, ShortShown};
 
 pub fn refusal_word(x: Refusal) -> u64
     requires { ⌜ ShortPlace x ⌝ }
@@ -24,6 +25,16 @@ pub fn reading_word(a: Reading) -> u64
     match a {
         Reading::Rules(n) => n as u64,
         Reading::Refused(x) => refusal_word(x),
+    }
+}
+
+pub fn written_word(a: Written) -> u64
+    requires { ⌜ ShortWritten a ⌝ }
+    ensures { λ r. ⌜ r ≡ writtenWord a ⌝ }
+{
+    match a {
+        Written::Length(n) => n as u64,
+        Written::Refused(x) => refusal_word(x),
     }
 }
 

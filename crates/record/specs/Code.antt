@@ -46,17 +46,17 @@ shownRefusal (Reading.Rules n) = Shown.Refused (refusal NoSuchRule 0)
 shownRefusal (Reading.Refused x) = Shown.Refused x
 
 -- the length of the rule's record that starts a part, by its counts
-unfoldable pub sizeAt : List ℕ → ℕ
-sizeAt t = 7 + 5 * (getD t 4 0 + getD t 5 0 + getD t 6 0)
+abbrev pub recordSize : List ℕ → ℕ
+recordSize t = 7 + 5 * (getD t 4 0 + getD t 5 0 + getD t 6 0)
 
 -- the extent of the record number n, counted from 1 at `at`, where one record follows another
 unfoldable pub walked : List ℕ → ℕ → ℕ → Extent
 walked s at zero = record { start = at; size = 0 }
-walked s at (suc zero) = record { start = at; size = sizeAt (drop at s) }
-walked s at (suc (suc n)) = walked s (at + sizeAt (drop at s)) (suc n)
+walked s at (suc zero) = record { start = at; size = recordSize (drop at s) }
+walked s at (suc (suc n)) = walked s (at + recordSize (drop at s)) (suc n)
 
 -- n records, one or more, lie whole in s from `at` on
 unfoldable pub Walks : List ℕ → ℕ → ℕ → Type 0
 Walks s at zero = ⊥
-Walks s at (suc zero) = at + sizeAt (drop at s) ≤ length s
-Walks s at (suc (suc n)) = (at + sizeAt (drop at s) ≤ length s) × Walks s (at + sizeAt (drop at s)) (suc n)
+Walks s at (suc zero) = at + recordSize (drop at s) ≤ length s
+Walks s at (suc (suc n)) = (at + recordSize (drop at s) ≤ length s) × Walks s (at + recordSize (drop at s)) (suc n)

@@ -13,7 +13,7 @@ use Rattle.record.specs.declared.Extent.{Extent}
 use Rattle.record.specs.declared.Shown.{Shown}
 use Rattle.record.specs.declared.Shown.the-variants.{At, Refused}
 use Rattle.record.specs.Refusal.{refusal}
-use Rattle.record.specs.Result.{Result, accepted, refused}
+use Rattle.record.specs.Result.{accepted, refused}
 use Rattle.record.specs.Reading.{parsed}
 
 -- where the record of rule n lies, in a program whose first record starts at `at` and holds rule 1

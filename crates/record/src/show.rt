@@ -14,7 +14,7 @@ ghost use Prim.Native.Nat.{_+_, _*_, _≤_};
 ghost use lib.ListN.{length, getD};
 ghost use Rattle.literal.specs.Limits.{source, plain};
 ghost use Rattle.record.specs.Show.{shown, shownExtent};
-ghost use Rattle.record.specs.Code.{shownRefusal, sizeAt, walked, Walks};
+ghost use Rattle.record.specs.Code.{shownRefusal, recordSize, walked, Walks};
 ghost use Rattle.record.specs.Part.{PartAt};
 
 // A rule's record with these counts has so many bytes.
@@ -25,9 +25,9 @@ fn size_for(heads: u8, positives: u8, nafs: u8) -> usize
 }
 
 // The length of the rule's record at the part's start.
-fn size_of(t: &[u8]) -> usize
+pub fn record_size(t: &[u8]) -> usize
     requires { ⌜ 7 ≤ length (now t) ⌝ }
-    ensures { λ r. ⌜ r ≡ sizeAt (now (t .entry)) ⌝ }
+    ensures { λ r. ⌜ r ≡ recordSize (now (t .entry)) ⌝ }
 {
     size_for(t[4], t[5], t[6])
 }
@@ -53,10 +53,10 @@ fn walk(s: &[u8], number: usize) -> Extent
     let mut at: usize = 0;
     let mut left = number;
     while 1 < left {
-        at += size_of(&s[at..]);
+        at += record_size(&s[at..]);
         left -= 1;
     }
-    let size = size_of(&s[at..]);
+    let size = record_size(&s[at..]);
     Extent { start: at, size }
 }
 

@@ -1,18 +1,17 @@
 -- The one-to-one match over two forms' literals: F takes kinds 0 to 3 alone, and G covers F. The limits are parameters.
 -- Assumes nothing.
 use Prim.Native.Nat.{_≤_}
-use mathlib.Core.Path.{_≡_, sym, _∙_, subst}
+use mathlib.Core.Path.{sym, _∙_, subst}
 use lib.Dec.{T}
 use Rattle.literal.specs.declared.Limits.{Limits}
-use Rattle.literal.specs.declared.Literal.{Literal}
 use Rattle.literal.specs.Literal.{takes}
 use Rattle.semantics.specs.Set.{LiteralSet, all}
-use Rattle.semantics.specs.Rule.{Program, head}
+use Rattle.semantics.specs.Rule.{Program}
 use Rattle.semantics.specs.Meaning.{AnswerSet}
 use Rattle.semantics.specs.Translation.{translation}
-use Rattle.semantics.specs.Extension.{extension, restriction}
+use Rattle.semantics.specs.Extension.{restriction}
 use Rattle.semantics.specs.Form.{SetOf, keepsRule, keepsRules, sourceRule, SourceSet}
-use Rattle.semantics.specs.Match.{OneSource, Match, FormMatch}
+use Rattle.semantics.specs.Match.{FormMatch}
 use Rattle.semantics.proofs.Laws.Tests.{all-mem}
 use Rattle.semantics.proofs.Laws.Extension.{extension-injective, restriction-source}
 use Rattle.semantics.proofs.Laws.Heads.{answer-set-head}

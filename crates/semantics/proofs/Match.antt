@@ -5,9 +5,9 @@
 -- That a number has one rule is used at one point: rule-defeated n in the extension means that rule n is defeated.
 -- Assumes nothing.
 use Prim.Native.Nat.{ℕ}
-use mathlib.Core.Path.{_≡_, refl, sym, _∙_, ap, subst}
-use mathlib.Core.Bool.{Bool, true, false, _&&_, _||_}
-use mathlib.Core.Logic.{_↔_, _⊎_, inl, inr, ⊎-elim}
+use mathlib.Core.Path.{_≡_, refl, sym, _∙_, subst}
+use mathlib.Core.Bool.{true, _&&_}
+use mathlib.Core.Logic.{_↔_}
 use mathlib.Core.List.{List, List·Memᴰ}
 use lib.Dec.{T}
 use Rattle.literal.specs.declared.Tag.{Tag}
@@ -21,13 +21,13 @@ use Rattle.semantics.specs.Meaning.{quotient, models, Interpretation, An
 use Rattle.semantics.specs.Translation.{ruleDefeated, translation}
 use Rattle.semantics.specs.Extension.{defeatedRule, extension, sourceKind, restriction}
 use Rattle.semantics.specs.Form.{sourceRule, SourceSet}
-use Rattle.semantics.specs.Match.{OneSource, Match, AnySet, KindMatch}
-use Rattle.semantics.proofs.Laws.Tests.{both, first, second, decide, same-test, all-agree, all-intro, all-mem, along}
+use Rattle.semantics.specs.Match.{KindMatch}
+use Rattle.semantics.proofs.Laws.Tests.{both, first, second, same-test, all-intro, all-mem, along}
 use Rattle.semantics.proofs.Laws.Set.{set-ext}
-use Rattle.semantics.proofs.Laws.Meaning.{Kept, Chosen, answer-set-contains, answer-set-intro}
-use Rattle.semantics.proofs.Laws.Position.{At, Offer, all-at, at-unique, models-at, at-models}
-use Rattle.semantics.proofs.Laws.Translation.{Marked, Translated, models-translation, translation-models}
-use Rattle.semantics.proofs.Laws.Extension.{Agree, any-source, all-source, agree-signed, agree-defeated, extension-agree, restriction-agree, DerivedMark, extension-derived, derived-extension, extension-defeated, defeated-extension, restriction-source, restriction-subset, restriction-extension, extension-injective}
+use Rattle.semantics.proofs.Laws.Meaning.{Kept, answer-set-contains, answer-set-intro}
+use Rattle.semantics.proofs.Laws.Position.{At, all-at, at-unique, models-at, at-models}
+use Rattle.semantics.proofs.Laws.Translation.{Translated, models-translation, translation-models}
+use Rattle.semantics.proofs.Laws.Extension.{Agree, any-source, all-source, agree-signed, agree-defeated, extension-agree, restriction-agree, extension-derived, derived-extension, extension-defeated, defeated-extension, restriction-source, restriction-subset, restriction-extension, extension-injective}
 
 agree-sym : {s u : LiteralSet} → Agree s u → Agree u s
 agree-sym e l k = sym (e l k)

@@ -4,12 +4,10 @@
 -- Assumes nothing.
 use Prim.Native.Nat.{ℕ}
 use mathlib.Core.Bool.{Bool, true, _&&_}
-use mathlib.Core.List.{List, map}
 use lib.Dec.{T, leb}
 use lib.ListN.{length}
 use Rattle.literal.specs.declared.Limits.{Limits}
 use Rattle.literal.specs.declared.Literal.{Literal}
-use Rattle.literal.specs.declared.Literal.the-variants.{Signed}
 use Rattle.literal.specs.Literal.{takes, inRange}
 use Rattle.semantics.specs.Set.{LiteralSet, all}
 use Rattle.semantics.specs.Rule.{Rule, strict, defeasible, Program, head, positive, naf}

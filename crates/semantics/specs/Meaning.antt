@@ -13,7 +13,7 @@ use Rattle.literal.specs.declared.SignedAtom.{SignedAtom}
 use Rattle.literal.specs.declared.SignedAtom.the-variants.{Positive, Negative}
 use Rattle.literal.specs.declared.Literal.{Literal}
 use Rattle.literal.specs.declared.Literal.the-variants.{Signed, Defeated}
-use Rattle.semantics.specs.Set.{LiteralSet, any, all, Subset, ProperSubset}
+use Rattle.semantics.specs.Set.{LiteralSet, any, all, ProperSubset}
 use Rattle.semantics.specs.Rule.{Rule, strict, defeasible, Program, Remainder}
 
 -- the options of a rule with tag t that are left: those whose defeat mark is not in s

@@ -2,7 +2,7 @@
 -- In order: the marks; rules (2) to (6); the translation; the length of a record, of a translation; the rule count.
 -- Not here: the records' bytes (`record`).
 -- Assumes nothing.
-use Prim.Native.Nat.{ℕ, suc, _+_, _*_}
+use Prim.Native.Nat.{ℕ, _+_, _*_}
 use mathlib.Core.List.{List, [], _∷_, _++_, map}
 use lib.ListN.{length}
 use Rattle.literal.specs.declared.Tag.{Tag}

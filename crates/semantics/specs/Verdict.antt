@@ -3,15 +3,14 @@
 -- smaller model; the finding. Not here: bytes, places, the lent output (`verdict`).
 -- Assumes nothing.
 use Prim.Native.Nat.{ℕ, _+_}
-use mathlib.Core.Bool.{Bool, true, false, cond, not, _&&_}
+use mathlib.Core.Bool.{Bool, false, cond, not, _&&_}
 use mathlib.Core.List.{List, [], _∷_}
 use mathlib.Core.Option.{Option, none, some}
-use Rattle.literal.specs.declared.SignedAtom.{SignedAtom}
 use Rattle.literal.specs.declared.Literal.{Literal}
 use Rattle.literal.specs.declared.Literal.the-variants.{Signed, Defeated, Derived, RuleDefeated}
 use Rattle.literal.specs.Literal.{opposite}
 use Rattle.semantics.specs.Set.{LiteralSet, all, setOf}
-use Rattle.semantics.specs.Rule.{Rule, Program, Remainder}
+use Rattle.semantics.specs.Rule.{Program, Remainder}
 use Rattle.semantics.specs.Meaning.{remainder, quotient, satisfied, models}
 
 -- what a check finds: the position of a literal, the number of a rule, a smaller model, or nothing against the set

@@ -7,8 +7,6 @@ use lib.Dec.{ltb}
 use lib.ListN.{length}
 use Rattle.buffer.specs.Write.{write}
 use Rattle.literal.specs.declared.Limits.{Limits}
-use Rattle.literal.specs.declared.Literal.{Literal}
-use Rattle.semantics.specs.Rule.{Program}
 use Rattle.semantics.specs.Verdict.{Finding, clash, broken, smaller, answerSet, finding}
 use Rattle.record.specs.declared.Reason.the-variants.{OutputShort}
 use Rattle.record.specs.Refusal.{refusal}

@@ -1,12 +1,12 @@
 -- Reading a rule's literals and its head, test by test. Assumes nothing.
-use Prim.Native.Nat.{ℕ, zero, suc, _+_, _*_, _-_, _≤_, _<_}
+use Prim.Native.Nat.{ℕ, zero, suc, _+_, _*_, _≤_, _<_}
 use native.Mathlib.Omega.{arith}
 use native.Mathlib.Nat.{add-zero}
-use mathlib.Core.Path.{_≡_, refl, sym, _∙_, ap, ap₂, subst}
+use mathlib.Core.Path.{_≡_, refl, sym, _∙_, ap, ap₂}
 use mathlib.Core.Bool.{Bool, true, false, _&&_, true≢false}
 use mathlib.Core.List.{List, [], _∷_}
-use mathlib.Core.Option.{Option, none, some}
-use lib.Dec.{T, leb, ltb}
+use mathlib.Core.Option.{none, some}
+use lib.Dec.{leb, ltb}
 use lib.ListN.{length, getD, take, drop}
 use lib.Seq.{getD-drop, length-take-le}
 use borrow.Author.Tests.{le-ltb, lt-ltb}
@@ -21,14 +21,14 @@ use Rattle.literal.specs.declared.Decoded.the-variants.{Valid, Wrong}
 use Rattle.literal.specs.Literal.{decoded, kind}
 use Rattle.literal.proofs.Laws.Literal.{decoded-kind}
 use Rattle.semantics.specs.Set.{all}
-use Rattle.semantics.specs.Rule.{Rule, strict, defeasible}
+use Rattle.semantics.specs.Rule.{Rule, defeasible}
 use Rattle.record.specs.declared.Reason.the-variants.{LiteralsCut, HeadWrong, LiteralWrong}
 use Rattle.record.specs.declared.Refusal.{Refusal}
 use Rattle.record.specs.declared.Run.{Run}
 use Rattle.record.specs.declared.Step.{Step}
 use Rattle.record.specs.Refusal.{refusal}
-use Rattle.record.specs.Result.{Result, accepted, refused, andThen, refuseIf}
-use Rattle.record.specs.Reading.{Entry, rule, end, literalsAt, optionsOf, defeasibleRule, ruleOf, bodyAt}
+use Rattle.record.specs.Result.{Result, accepted, refused, andThen}
+use Rattle.record.specs.Reading.{Entry, rule, literalsAt, optionsOf, defeasibleRule, ruleOf, bodyAt}
 use Rattle.record.specs.Code.{runOf, signedKinds, stepOf}
 use Rattle.record.proofs.Laws.Result.{refused-accepted, accepted-eq, and-then-accepted, refuse-if-false, refuse-if-true}
 

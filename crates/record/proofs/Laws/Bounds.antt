@@ -1,7 +1,7 @@
 -- Places and extents lie within the form's length. Assumes nothing.
 use Prim.Native.Nat.{ℕ, zero, suc, _+_, _≤_}
 use native.Mathlib.Omega.{arith}
-use mathlib.Core.Path.{_≡_, refl, sym, _∙_, ap, subst}
+use mathlib.Core.Path.{_≡_, refl, subst}
 use mathlib.Core.Bool.{Bool, true, false}
 use mathlib.Core.List.{List, [], _∷_}
 use lib.Dec.{ltb}
@@ -22,7 +22,7 @@ use Rattle.record.specs.Reading.{Entry, rule, end, recordAt, rulesFrom, 
 use Rattle.record.specs.Show.{extentFrom, shown}
 use Rattle.record.proofs.Laws.Result.{refuse-if-accepted}
 use Rattle.record.proofs.Laws.Places.{Placed, refuse-if-placed, and-then-placed, record-placed}
-use Rattle.record.proofs.Laws.Program.{Sized, record-size}
+use Rattle.record.proofs.Laws.Program.{record-size}
 use Rattle.record.proofs.Laws.Shown.{shown-fits}
 
 rules-placed : (F : Limits) (f : ℕ) (t : List ℕ) (at n k : ℕ) → at + length t ≤ k → Placed k (rulesFrom F f t at n)
@@ -49,7 +49,7 @@ rules-placed F (suc f) t at n k h = go (recordAt F n t) refl (record-placed F n 
     go (refused y) w p ih = omega arith
     go (accepted e) w p ih = entry e w ih
 
-parsed-placed : (F : Limits) (s : List ℕ) → Placed (F .length) (parsed F s)
+pub parsed-placed : (F : Limits) (s : List ℕ) → Placed (F .length) (parsed F s)
 unfolding parsed
 parsed-placed F s =
     refuse-if-placed (F .length) (ltb (F .length) (length s)) _ _ (omega arith)

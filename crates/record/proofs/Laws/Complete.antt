@@ -4,15 +4,15 @@
 use Prim.Native.Nat.{ℕ, zero, suc, _+_, _*_, _/_, _%_, _≤_, _<_}
 use native.Mathlib.Omega.{arith}
 use native.Mathlib.Nat.{add-zero}
-use mathlib.Core.Path.{_≡_, refl, sym, _∙_, ap, ap₂, subst}
+use mathlib.Core.Path.{_≡_, refl, sym, _∙_, ap, subst}
 use mathlib.Core.Bool.{Bool, true, false, not, _&&_}
 use mathlib.Core.List.{List, [], _∷_, _++_, map, append-assoc}
 use mathlib.Core.Option.{Option, none, some}
 use lib.Dec.{T, leb, ltb, eqb, eqb-refl, leb→le}
-use lib.ListN.{length, getD, take, drop, length-append, length-map}
+use lib.ListN.{length, take, drop, length-append, length-map}
 use lib.Seq.{drop-drop, take-append-seam, drop-append-seam, drop-at}
 use borrow.Author.Tests.{le-ltb, lt-leb}
-use Rattle.buffer.specs.Bytes.{twoBytes, number, numberAt}
+use Rattle.buffer.specs.Bytes.{numberAt}
 use Rattle.literal.specs.declared.Limits.{Limits}
 use Rattle.literal.specs.declared.SignedAtom.{SignedAtom}
 use Rattle.literal.specs.declared.Tag.{Tag}
@@ -25,15 +25,15 @@ use Rattle.literal.proofs.Laws.Literal.{decoded-encoded}
 use Rattle.semantics.specs.Set.{all}
 use Rattle.semantics.specs.Rule.{Rule, strict, defeasible, Program, head, positive, naf}
 use Rattle.semantics.specs.Translation.{recordLength}
-use Rattle.semantics.specs.Form.{keepsCounts, keepsLiterals, keepsTag, keepsRule}
+use Rattle.semantics.specs.Form.{keepsCounts, keepsTag, keepsRule}
 use Rattle.semantics.proofs.Laws.Tests.{both, first, second, is-true, along, all-append}
 use Rattle.semantics.proofs.Laws.Form.{keeps-tag, keeps-counts, keeps-head, keeps-positive, keeps-naf}
 use Rattle.record.specs.declared.Reason.the-variants.{LiteralWrong, HeadWrong}
-use Rattle.record.specs.Refusal.{refusal, shifted}
+use Rattle.record.specs.Refusal.{refusal}
 use Rattle.record.specs.declared.Mark.{Mark}
-use Rattle.record.specs.declared.Mark.the-variants.{RuleMark, EndMark, NoMark}
+use Rattle.record.specs.declared.Mark.the-variants.{RuleMark}
 use Rattle.record.specs.Result.{Result, accepted, refused, andThen, refuseIf}
-use Rattle.record.specs.Layout.{colon, encodedLiterals, ruleRecord, encodedRule, encodedRules, encodedEnd}
+use Rattle.record.specs.Layout.{encodedLiterals, ruleRecord, encodedRule, encodedRules, encodedEnd}
 use Rattle.record.specs.Reading.{Entry, rule, end, literalsAt, optionsOf, defeasibleRule, ruleOf, tagRight, bodyAt, ruleAt, endAt, marked, pickMark, markAt, markedRecord, recordAt, rulesFrom}
 use Rattle.record.proofs.Laws.Result.{accepted-and-then, refuse-if-false}
 use Rattle.record.proofs.Laws.Steps.{rules-rule, rules-end}

@@ -1,6 +1,6 @@
 -- Reading a record's header and the end record, test by test. Assumes nothing.
-use Prim.Native.Nat.{ℕ, _+_, _≤_, _<_}
-use mathlib.Core.Path.{_≡_, refl, sym, _∙_, ap}
+use Prim.Native.Nat.{ℕ, _≤_, _<_}
+use mathlib.Core.Path.{_≡_, _∙_, ap}
 use mathlib.Core.Bool.{Bool, true, false, not, _&&_, and-false}
 use mathlib.Core.List.{List}
 use lib.Dec.{leb, ltb, eqb}
@@ -14,8 +14,8 @@ use Rattle.record.specs.declared.Mark.{Mark}
 use Rattle.record.specs.declared.Mark.the-variants.{RuleMark, EndMark, NoMark}
 use Rattle.record.specs.declared.Step.{Step}
 use Rattle.record.specs.Refusal.{refusal}
-use Rattle.record.specs.Result.{Result, accepted, refused, refuseIf}
-use Rattle.record.specs.Reading.{Entry, end, tagRight, bodyAt, ruleAt, endAt, markAt, markedRecord, recordAt}
+use Rattle.record.specs.Result.{accepted, refuseIf}
+use Rattle.record.specs.Reading.{end, tagRight, bodyAt, ruleAt, endAt, markAt, markedRecord, recordAt}
 use Rattle.record.specs.Code.{stepOf}
 use Rattle.record.proofs.Laws.Result.{refuse-if-true, refuse-if-false}
 

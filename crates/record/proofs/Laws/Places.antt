@@ -1,7 +1,7 @@
 -- A refusal met in a record has its place within the record's part. Assumes nothing.
 use Prim.Native.Nat.{ℕ, zero, suc, _+_, _*_, _≤_}
 use native.Mathlib.Omega.{arith}
-use mathlib.Core.Path.{_≡_, refl, sym, subst}
+use mathlib.Core.Path.{_≡_, refl, subst}
 use mathlib.Core.Bool.{Bool, true, false, not, _&&_}
 use mathlib.Core.List.{List, [], _∷_}
 use mathlib.Core.Option.{Option, none, some}
@@ -15,7 +15,7 @@ use Rattle.literal.specs.declared.Literal.{Literal}
 use Rattle.literal.specs.declared.Decoded.{Decoded}
 use Rattle.literal.specs.declared.Decoded.the-variants.{Valid, Wrong}
 use Rattle.literal.specs.Literal.{decoded}
-use Rattle.semantics.specs.Rule.{Rule, strict, defeasible}
+use Rattle.semantics.specs.Rule.{Rule, defeasible}
 use Rattle.semantics.specs.Form.{keepsCounts}
 use Rattle.record.specs.declared.Reason.the-variants.{LiteralWrong, HeadWrong}
 use Rattle.record.specs.declared.Refusal.{Refusal}
@@ -24,7 +24,7 @@ use Rattle.record.specs.declared.Mark.the-variants.{RuleMark, EndMark, N
 use Rattle.record.specs.declared.Step.{Step}
 use Rattle.record.specs.Refusal.{refusal}
 use Rattle.record.specs.Result.{Result, accepted, refused, andThen, refuseIf}
-use Rattle.record.specs.Reading.{Entry, rule, end, literalsAt, optionsOf, defeasibleRule, ruleOf, tagRight, bodyAt, ruleAt, endAt, markAt, markedRecord, recordAt}
+use Rattle.record.specs.Reading.{literalsAt, optionsOf, defeasibleRule, ruleOf, tagRight, bodyAt, ruleAt, endAt, markAt, markedRecord, recordAt}
 use Rattle.record.specs.Code.{stepOf}
 use Rattle.record.proofs.Laws.Program.{step-refused}
 

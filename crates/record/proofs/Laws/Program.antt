@@ -1,19 +1,18 @@
 -- Reading a program, one record each: what the rules counted so far and the part that is left come to.
 -- In order: what a step says of its record; a rule's size; counting on.
 -- Assumes nothing.
-use Prim.Native.Nat.{ℕ, zero, suc, _+_, _*_, _-_, _≤_, _<_}
+use Prim.Native.Nat.{ℕ, suc, _+_, _*_, _-_, _≤_, _<_}
 use native.Mathlib.Omega.{arith}
 use native.Mathlib.Nat.{add-zero, zero-add}
-use mathlib.Core.Path.{_≡_, refl, sym, _∙_, ap, ap₂}
-use mathlib.Core.Bool.{Bool, true, false, not}
-use mathlib.Core.List.{List, [], _∷_}
-use lib.Dec.{leb, ltb, eqb}
+use mathlib.Core.Path.{_≡_, refl, sym, _∙_, ap}
+use mathlib.Core.Bool.{Bool, not}
+use mathlib.Core.List.{List, _∷_}
+use lib.Dec.{leb, ltb}
 use lib.ListN.{length, getD, drop}
 use lib.Seq.{drop-drop}
 use borrow.Author.Tests.{le-ltb, lt-ltb, ltb-false}
 use Rattle.buffer.specs.Bytes.{numberAt}
 use Rattle.literal.specs.declared.Limits.{Limits}
-use Rattle.literal.specs.declared.Literal.{Literal}
 use Rattle.semantics.specs.Rule.{Rule, Program}
 use Rattle.semantics.specs.Form.{keepsCounts}
 use Rattle.record.specs.declared.Reason.the-variants.{TooLong}
@@ -23,7 +22,7 @@ use Rattle.record.specs.declared.Mark.the-variants.{RuleMark, EndMark, N
 use Rattle.record.specs.declared.Step.{Step}
 use Rattle.record.specs.declared.Reading.{Reading}
 use Rattle.record.specs.Refusal.{refusal, shifted}
-use Rattle.record.specs.Result.{Result, accepted, refused, andThen, refuseIf}
+use Rattle.record.specs.Result.{Result, accepted, refused, andThen}
 use Rattle.record.specs.Reading.{Entry, rule, end, literalsAt, ruleOf, tagRight, bodyAt, ruleAt, endAt, markAt, markedRecord, recordAt, rulesFrom, parsed, readingOf, reading}
 use Rattle.record.specs.Code.{stepOf, countedOn}
 use Rattle.record.proofs.Laws.Result.{refused-accepted, accepted-eq, and-then-accepted, refuse-if-accepted, refuse-if-true, refuse-if-false}

@@ -3,27 +3,26 @@
 use Prim.Native.Nat.{ℕ, _+_, _≤_}
 use native.Mathlib.Omega.{arith}
 use native.Mathlib.Nat.{zero-add}
-use mathlib.Core.Path.{_≡_, refl, sym, _∙_, ap, subst}
+use mathlib.Core.Path.{_≡_, sym, _∙_, ap, subst}
 use mathlib.Core.Bool.{_&&_}
 use mathlib.Core.Logic.{_↔_}
 use mathlib.Core.List.{List, _++_}
 use lib.Dec.{T, leb, ltb, leb→le, le→leb}
-use lib.ListN.{length, length-append}
+use lib.ListN.{length}
 use borrow.Author.Tests.{le-ltb, ltb-false}
 use Rattle.buffer.specs.Bytes.{Bytes}
 use Rattle.literal.specs.declared.Limits.{Limits}
 use Rattle.semantics.specs.Rule.{Program}
-use Rattle.semantics.specs.Translation.{recordsLength, programLength, recordLength}
 use Rattle.semantics.specs.Form.{keepsRule, keepsRules}
 use Rattle.semantics.specs.Set.{all}
 use Rattle.semantics.proofs.Laws.Tests.{both, first, second}
 use Rattle.semantics.proofs.Laws.Form.{keeps-count, keeps-each}
-use Rattle.record.specs.Result.{Result, accepted}
+use Rattle.record.specs.Result.{accepted}
 use Rattle.record.specs.Layout.{encodedRules, encodedEnd, encodedProgram, keeps}
 use Rattle.record.specs.Reading.{rulesFrom, parsed}
 use Rattle.record.proofs.Laws.Result.{refuse-if-accepted, refuse-if-false}
-use Rattle.record.proofs.Laws.Layout.{length-encoded-program, rules-below-length}
-use Rattle.record.proofs.Laws.Sound.{ProgramRead, rules-sound}
+use Rattle.record.proofs.Laws.Layout.{rules-below-length}
+use Rattle.record.proofs.Laws.Sound.{rules-sound}
 use Rattle.record.proofs.Laws.Complete.{rules-complete}
 
 module _ (F : Limits) where

@@ -3,9 +3,9 @@ use Prim.Native.Nat.{ℕ, _+_, _≤_, _<_}
 use native.Mathlib.Omega.{arith}
 use mathlib.Core.Path.{_≡_, refl, sym, _∙_, ap, subst}
 use mathlib.Core.Bool.{Bool, true, false, _&&_, and-false}
-use mathlib.Core.List.{List, _++_}
+use mathlib.Core.List.{List}
 use lib.Dec.{T, leb, leb→le}
-use lib.ListN.{length, drop}
+use lib.ListN.{length}
 use borrow.Author.Tests.{le-leb, lt-leb}
 use Rattle.buffer.specs.Bytes.{Bytes}
 use Rattle.literal.specs.declared.Limits.{Limits}
@@ -19,7 +19,7 @@ use Rattle.record.specs.declared.Extent.{Extent}
 use Rattle.record.specs.declared.Shown.{Shown}
 use Rattle.record.specs.Refusal.{refusal}
 use Rattle.record.specs.Result.{Result, accepted, refused}
-use Rattle.record.specs.Layout.{encodedRules, encodedEnd, encodedProgram}
+use Rattle.record.specs.Layout.{encodedEnd, encodedProgram}
 use Rattle.record.specs.Reading.{parsed, readingOf, reading}
 use Rattle.record.specs.Show.{extentFrom, shown}
 use Rattle.record.specs.Code.{walked, Walks}

@@ -1,7 +1,7 @@
 -- What reading accepts: an accepted record is the encoding of its rule, which keeps the form's limits.
 -- In order: a run of literals; the first seven bytes; marks; the rule; one record; the program.
 -- Assumes nothing.
-use Prim.Native.Nat.{ℕ, zero, suc, _+_, _*_, _/_, _%_, _≤_, _<_}
+use Prim.Native.Nat.{ℕ, zero, suc, _+_, _*_, _≤_, _<_}
 use native.Mathlib.Omega.{arith}
 use native.Mathlib.Nat.{add-zero}
 use mathlib.Core.Path.{_≡_, refl, sym, _∙_, ap, ap₂, subst}
@@ -9,11 +9,11 @@ use mathlib.Core.Bool.{Bool, true, false, not, _&&_, true≢false}
 use mathlib.Core.Logic.{_⊎_, inl, inr}
 use mathlib.Core.List.{List, [], _∷_, _++_, map, append-assoc}
 use mathlib.Core.Option.{Option, none, some}
-use lib.Dec.{T, leb, ltb, eqb, eqb→eq, leb→le, le→leb}
-use lib.ListN.{length, getD, take, drop, length-take, length-drop, length-append, take-append-drop, length-map}
-use lib.Seq.{take-add, drop-drop, getD-drop}
+use lib.Dec.{T, leb, ltb, eqb, eqb→eq, le→leb}
+use lib.ListN.{length, getD, take, drop, length-take, length-drop, take-append-drop, length-map}
+use lib.Seq.{take-add, drop-drop}
 use borrow.Author.Tests.{ltb-false, leb-false, not-false}
-use Rattle.buffer.specs.Bytes.{Bytes, twoBytes, number, numberAt}
+use Rattle.buffer.specs.Bytes.{Bytes, twoBytes, numberAt}
 use Rattle.buffer.proofs.Laws.Bytes.{bytes-drop, twoBytes-number}
 use Rattle.literal.specs.declared.Limits.{Limits}
 use Rattle.literal.specs.declared.SignedAtom.{SignedAtom}
@@ -25,17 +25,16 @@ use Rattle.literal.specs.Literal.{encoded, decoded, takes, inRange}
 use Rattle.literal.proofs.Laws.Literal.{encoded-decoded}
 use Rattle.semantics.specs.Set.{all}
 use Rattle.semantics.specs.Rule.{Rule, strict, defeasible, Program, head, positive, naf}
-use Rattle.semantics.specs.Form.{keepsCounts, keepsLiterals, keepsTag, keepsRule, keepsRules}
-use Rattle.semantics.proofs.Laws.Tests.{both, first, second, is-true, along, all-append}
+use Rattle.semantics.specs.Form.{keepsCounts, keepsLiterals, keepsTag, keepsRule}
+use Rattle.semantics.proofs.Laws.Tests.{both, first, second, along, all-append}
 use Rattle.record.specs.Refusal.{refusal, shifted}
 use Rattle.record.specs.declared.Reason.the-variants.{LiteralWrong, HeadWrong}
 use Rattle.record.specs.declared.Mark.{Mark}
 use Rattle.record.specs.declared.Mark.the-variants.{RuleMark, EndMark, NoMark}
-use Rattle.record.specs.Result.{Result, accepted, refused, andThen, refuseIf}
-use Rattle.record.specs.Layout.{colon, encodedLiterals, ruleRecord, encodedRule, encodedRules, encodedEnd, encodedProgram}
-use Rattle.record.specs.Reading.{Entry, rule, end, literalsAt, optionsOf, defeasibleRule, ruleOf, tagRight, bodyAt, ruleAt, endAt, marked, pickMark, markAt, markedRecord, recordAt, rulesFrom, parsed}
+use Rattle.record.specs.Result.{Result, accepted, refused, andThen}
+use Rattle.record.specs.Layout.{colon, encodedLiterals, ruleRecord, encodedRule, encodedRules, encodedEnd}
+use Rattle.record.specs.Reading.{Entry, rule, end, literalsAt, optionsOf, defeasibleRule, ruleOf, tagRight, bodyAt, ruleAt, endAt, marked, pickMark, markAt, markedRecord, recordAt, rulesFrom}
 use Rattle.record.proofs.Laws.Result.{refused-accepted, accepted-eq, and-then-accepted, refuse-if-accepted}
-use Rattle.record.proofs.Laws.Layout.{encoded-literals-append, length-encoded-literals, length-encoded-rule}
 
 -- a run of n literals
 pub record Run (F : Limits) (bs : List ℕ) (n : ℕ) (ls : List Literal) : Type 0 where

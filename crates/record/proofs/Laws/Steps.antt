@@ -1,6 +1,6 @@
 -- Reading record by record, one step each: what the next record decides. Assumes nothing.
 use Prim.Native.Nat.{ℕ, suc, _+_}
-use mathlib.Core.Path.{_≡_, refl, ap}
+use mathlib.Core.Path.{_≡_, ap}
 use mathlib.Core.List.{List, [], _∷_}
 use lib.ListN.{drop}
 use Rattle.literal.specs.declared.Limits.{Limits}

@@ -1,61 +1,57 @@
 -- Walking from record to record by their counts. Assumes nothing.
 -- In order: one step; a program's records; where rule n lies.
-use Prim.Native.Nat.{ℕ, zero, suc, _+_, _*_, _-_, _≤_, _<_}
+use Prim.Native.Nat.{ℕ, zero, suc, _+_, _-_, _≤_, _<_}
 use native.Mathlib.Omega.{arith}
-use native.Mathlib.Nat.{add-zero}
-use mathlib.Core.Path.{_≡_, refl, sym, _∙_, ap, ap₂, subst}
-use mathlib.Core.List.{List, [], _∷_, _++_, map, append-assoc}
-use lib.ListN.{length, getD, drop, length-append, length-map, length-drop}
+use mathlib.Core.Path.{_≡_, refl, sym, _∙_, ap, subst}
+use mathlib.Core.List.{List, [], _∷_, _++_, append-assoc}
+use lib.ListN.{length, drop, length-append, length-map, length-drop}
 use lib.Seq.{drop-drop, drop-at}
-use Rattle.literal.specs.declared.Literal.{Literal}
 use Rattle.literal.specs.declared.Literal.the-variants.{Signed}
 use Rattle.semantics.specs.Rule.{Rule, strict, defeasible, Program}
 use Rattle.semantics.specs.Translation.{recordLength}
-use Rattle.record.specs.declared.Extent.{Extent}
 use Rattle.record.specs.Layout.{ruleRecord, encodedRule, encodedRules}
 use Rattle.record.specs.Show.{extentFrom}
-use Rattle.record.specs.Code.{sizeAt, walked, Walks}
+use Rattle.record.specs.Code.{recordSize, walked, Walks}
 use Rattle.record.proofs.Laws.Layout.{length-encoded-rule}
 
-pub size-large : (t : List ℕ) → 7 ≤ sizeAt t
-unfolding sizeAt
+pub size-large : (t : List ℕ) → 7 ≤ recordSize t
 size-large t = omega arith
 
 module _ (s : List ℕ) (at : ℕ) where
   -- a step to the next record
-  pub walks-more : (n : ℕ) → 1 < n → Walks s at n → (at + sizeAt (drop at s) ≤ length s) × Walks s (at + sizeAt (drop at s)) (n - 1)
+  pub walks-more : (n : ℕ) → 1 < n → Walks s at n → (at + recordSize (drop at s) ≤ length s) × Walks s (at + recordSize (drop at s)) (n - 1)
   unfolding Walks
   walks-more zero h w = absurd w
   walks-more (suc zero) h w = absurd (omega arith)
-  walks-more (suc (suc n)) h w = (w .0, subst (Walks s (at + sizeAt (drop at s))) back (w .1))
+  walks-more (suc (suc n)) h w = (w .0, subst (Walks s (at + recordSize (drop at s))) back (w .1))
     where
       back : suc n ≡ suc (suc n) - 1
       back = omega arith
 
-  pub walked-more : (n : ℕ) → 1 < n → walked s at n ≡ walked s (at + sizeAt (drop at s)) (n - 1)
+  pub walked-more : (n : ℕ) → 1 < n → walked s at n ≡ walked s (at + recordSize (drop at s)) (n - 1)
   unfolding walked
   walked-more zero h = absurd (omega arith)
   walked-more (suc zero) h = absurd (omega arith)
-  walked-more (suc (suc n)) h = ap (walked s (at + sizeAt (drop at s))) back
+  walked-more (suc (suc n)) h = ap (walked s (at + recordSize (drop at s))) back
     where
       back : suc n ≡ suc (suc n) - 1
       back = omega arith
 
   -- the last record
-  pub walks-last : (n : ℕ) → n ≤ 1 → Walks s at n → at + sizeAt (drop at s) ≤ length s
+  pub walks-last : (n : ℕ) → n ≤ 1 → Walks s at n → at + recordSize (drop at s) ≤ length s
   unfolding Walks
   walks-last zero h w = absurd w
   walks-last (suc zero) h w = w
   walks-last (suc (suc n)) h w = absurd (omega arith)
 
-  pub walked-last : (n : ℕ) → n ≤ 1 → Walks s at n → walked s at n ≡ record { start = at; size = sizeAt (drop at s) }
+  pub walked-last : (n : ℕ) → n ≤ 1 → Walks s at n → walked s at n ≡ record { start = at; size = recordSize (drop at s) }
   unfolding Walks walked
   walked-last zero h w = absurd w
   walked-last (suc zero) h w = refl
   walked-last (suc (suc n)) h w = absurd (omega arith)
 
   -- a record that is walked lies before the slice's end
-  pub walks-start : (n : ℕ) → Walks s at n → at + sizeAt (drop at s) ≤ length s
+  pub walks-start : (n : ℕ) → Walks s at n → at + recordSize (drop at s) ≤ length s
   unfolding Walks
   walks-start zero w = absurd w
   walks-start (suc zero) w = w
@@ -66,19 +62,19 @@ pub walked-fits : (s : List ℕ) (n at : ℕ) → Walks s at n → walked s at n
 unfolding Walks walked
 walked-fits s zero at w = absurd w
 walked-fits s (suc zero) at w = w
-walked-fits s (suc (suc n)) at w = walked-fits s (suc n) (at + sizeAt (drop at s)) (w .1)
+walked-fits s (suc (suc n)) at w = walked-fits s (suc n) (at + recordSize (drop at s)) (w .1)
 
 -- a rule's record has the length that its counts say
-pub size-record : (r : Rule) (rest : List ℕ) → sizeAt (encodedRule r ++ rest) ≡ recordLength r
-unfolding sizeAt encodedRule ruleRecord recordLength
+pub size-record : (r : Rule) (rest : List ℕ) → recordSize (encodedRule r ++ rest) ≡ recordLength r
+unfolding encodedRule ruleRecord recordLength
 size-record (strict h b c) rest = omega arith
 size-record (defeasible t h b c) rest = omega (arith, length-map h Signed)
 
 -- the records of a program can be walked, to where rule n lies
 module _ (s tail : List ℕ) where
-  size-here : (r : Rule) (p : Program) (at : ℕ) → drop at s ≡ encodedRules (r ∷ p) ++ tail → sizeAt (drop at s) ≡ recordLength r
+  size-here : (r : Rule) (p : Program) (at : ℕ) → drop at s ≡ encodedRules (r ∷ p) ++ tail → recordSize (drop at s) ≡ recordLength r
   unfolding encodedRules
-  size-here r p at e = ap sizeAt (e ∙ append-assoc (encodedRule r) (encodedRules p) tail) ∙ size-record r (encodedRules p ++ tail)
+  size-here r p at e = ap recordSize (e ∙ append-assoc (encodedRule r) (encodedRules p) tail) ∙ size-record r (encodedRules p ++ tail)
 
   behind : (r : Rule) (p : Program) (at : ℕ) → drop at s ≡ encodedRules (r ∷ p) ++ tail → drop (at + recordLength r) s ≡ encodedRules p ++ tail
   unfolding encodedRules

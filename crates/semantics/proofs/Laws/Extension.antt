@@ -2,9 +2,9 @@
 -- In order: literals of source kinds; sets that agree on them; derived marks; rule-defeated marks; restriction.
 -- Assumes nothing.
 use Prim.Native.Nat.{ℕ}
-use mathlib.Core.Path.{_≡_, refl, sym, _∙_, ap, subst}
-use mathlib.Core.Bool.{Bool, true, false, not, _&&_, _||_, or-false}
-use mathlib.Core.Logic.{_⊎_, inl, inr, ⊎-elim}
+use mathlib.Core.Path.{_≡_, refl, sym, _∙_, ap}
+use mathlib.Core.Bool.{not, _&&_, or-false}
+use mathlib.Core.Logic.{⊎-elim}
 use mathlib.Core.List.{List, List·Memᴰ}
 use lib.Dec.{T}
 use Rattle.literal.specs.declared.Tag.{Tag}
@@ -13,11 +13,10 @@ use Rattle.literal.specs.declared.SignedAtom.{SignedAtom}
 use Rattle.literal.specs.declared.Literal.{Literal}
 use Rattle.literal.specs.declared.Literal.the-variants.{Signed, Defeated, Derived, RuleDefeated}
 use Rattle.semantics.specs.Set.{LiteralSet, any, all}
-use Rattle.semantics.specs.Rule.{Rule, strict, defeasible, Program}
-use Rattle.semantics.specs.Translation.{ruleDefeated}
+use Rattle.semantics.specs.Rule.{Rule, defeasible, Program}
 use Rattle.semantics.specs.Extension.{offers, defeatedRule, defeatedFrom, added, extension, sourceKind, restriction}
 use Rattle.semantics.specs.Form.{SourceSet}
-use Rattle.semantics.proofs.Laws.Tests.{first, second, both, left, right, either, fails, refuted, any-agree, all-agree, all-mem, along}
+use Rattle.semantics.proofs.Laws.Tests.{first, second, both, right, either, fails, refuted, any-agree, all-agree, all-mem, along}
 use Rattle.semantics.proofs.Laws.Set.{set-ext}
 use Rattle.semantics.proofs.Laws.Position.{At, Offer, offer-found, offer-any, defeated-found, defeated-at}
 

@@ -1,11 +1,10 @@
 -- Laws of forms: what a program within a form's limits is made of, and which literals extensions of its sets hold.
 -- In order: the parts of a rule within the limits; a form without marks; where a form covers another.
 -- Assumes nothing.
-use Prim.Native.Nat.{ℕ, _≤_, _<_}
+use Prim.Native.Nat.{ℕ, _≤_}
 use native.Mathlib.Omega.{arith}
-use mathlib.Core.Path.{_≡_, refl, sym, subst}
-use mathlib.Core.Bool.{Bool, _&&_}
-use mathlib.Core.List.{List, map, List·Memᴰ, Memᴰ·map}
+use mathlib.Core.Bool.{_&&_}
+use mathlib.Core.List.{List}
 use lib.Dec.{T, leb, leb→le, le→leb}
 use lib.ListN.{length}
 use Rattle.literal.specs.declared.Limits.{Limits}
@@ -15,7 +14,7 @@ use Rattle.literal.specs.declared.Literal.the-variants.{Signed, Defeated, Deriv
 use Rattle.literal.specs.Literal.{atomNumber, takes, inRange}
 use Rattle.literal.specs.declared.Tag.{Tag}
 use Rattle.semantics.specs.Set.{LiteralSet, all}
-use Rattle.semantics.specs.Rule.{Rule, strict, defeasible, Program, head, positive, naf}
+use Rattle.semantics.specs.Rule.{Rule, defeasible, Program, head, positive, naf}
 use Rattle.semantics.specs.Translation.{ruleDefeated}
 use Rattle.semantics.specs.Extension.{extension, sourceKind}
 use Rattle.semantics.specs.Form.{SetOf, keepsCounts, keepsLiterals, keepsTag, keepsRule, keepsRules, sourceRule, SourceSet}

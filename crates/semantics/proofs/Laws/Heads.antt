@@ -1,18 +1,17 @@
 -- An answer set holds literals of heads alone. Assumes nothing.
-use Prim.Native.Nat.{ℕ, _+_}
-use mathlib.Core.Path.{_≡_, refl, sym, subst}
-use mathlib.Core.Bool.{Bool, _&&_, _||_}
-use mathlib.Core.List.{List, [], _∷_, map, List·Memᴰ, Memᴰ·map}
+use Prim.Native.Nat.{ℕ}
+use mathlib.Core.Bool.{Bool, _&&_}
+use mathlib.Core.List.{List, List·Memᴰ, Memᴰ·map}
 use lib.Dec.{T}
 use Rattle.literal.specs.declared.Literal.{Literal}
 use Rattle.literal.specs.declared.Literal.the-variants.{Signed}
-use Rattle.semantics.specs.Set.{LiteralSet, any, all, Subset, setOf}
+use Rattle.semantics.specs.Set.{LiteralSet, any, all, setOf}
 use Rattle.semantics.specs.Rule.{Rule, strict, defeasible, Program, head}
 use Rattle.semantics.specs.Meaning.{quotient, models, AnswerSet}
-use Rattle.semantics.proofs.Laws.Tests.{both, first, second, left, right, any-mem, any-found, all-intro, all-mem}
+use Rattle.semantics.proofs.Laws.Tests.{both, first, second, left, any-mem, any-found, all-intro, all-mem}
 use Rattle.semantics.proofs.Laws.Set.{set-of-mem, mem-set-of}
 use Rattle.semantics.proofs.Laws.Meaning.{Kept, answer-set-contains}
-use Rattle.semantics.proofs.Laws.Position.{At, here, there, models-at, at-models, at-mem}
+use Rattle.semantics.proofs.Laws.Position.{At, models-at, at-models, at-mem}
 
 -- l stands in a head of p
 heads : Program → Literal → Bool

@@ -1,10 +1,9 @@
 -- Laws of sets: the tests of sameness are equalities; two sets with the same literals are one; minimality.
 -- Assumes nothing.
-use mathlib.Core.Path.{_≡_, refl, sym, ap, ap₂, subst, fun-ext}
-use mathlib.Core.Bool.{Bool, true, false, _&&_, _||_}
-use mathlib.Core.Logic.{_⊎_, inl, inr, ⊎-elim}
-use mathlib.Core.List.{List, [], _∷_, List·Memᴰ, Memᴰ·cast}
-use lib.Dec.{T, eqb, eqb→eq, eqb-refl}
+use mathlib.Core.Path.{_≡_, sym, ap, ap₂, subst, fun-ext}
+use mathlib.Core.Logic.{_⊎_, inl, inr}
+use mathlib.Core.List.{List, List·Memᴰ, Memᴰ·cast}
+use lib.Dec.{T, eqb→eq, eqb-refl}
 use Rattle.literal.specs.declared.Tag.{Tag}
 use Rattle.literal.specs.declared.Atom.{Atom}
 use Rattle.literal.specs.declared.RuleNo.{RuleNo}
@@ -12,7 +11,7 @@ use Rattle.literal.specs.declared.SignedAtom.{SignedAtom}
 use Rattle.literal.specs.declared.SignedAtom.the-variants.{Positive, Negative}
 use Rattle.literal.specs.declared.Literal.{Literal}
 use Rattle.literal.specs.declared.Literal.the-variants.{Signed, Defeated, Derived, RuleDefeated}
-use Rattle.semantics.specs.Set.{LiteralSet, Subset, ProperSubset, sameTag, sameSigned, sameLiteral, setOf, any}
+use Rattle.semantics.specs.Set.{LiteralSet, Subset, ProperSubset, sameTag, sameSigned, sameLiteral, setOf}
 use Rattle.semantics.proofs.Laws.Tests.{first, second, both, decide, any-mem, any-found, same-test}
 
 -- a number in a tuple struct is the struct

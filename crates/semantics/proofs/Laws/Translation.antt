@@ -1,22 +1,21 @@
 -- Laws of the translation: of an append; what a model of its quotient must give of one source rule, rules (2) to (6)
 -- by name. Assumes nothing.
-use Prim.Native.Nat.{ℕ, suc, _+_}
-use mathlib.Core.Path.{_≡_, refl, sym, _∙_, ap, subst, subst₂}
-use mathlib.Core.Bool.{Bool, true, false, _&&_, _||_, and-assoc}
+use Prim.Native.Nat.{ℕ, _+_}
+use mathlib.Core.Path.{_≡_, refl, sym, subst, subst₂}
+use mathlib.Core.Bool.{Bool, true, false, _&&_, _||_}
 use mathlib.Core.Logic.{_↔_, ⊎-elim}
-use mathlib.Core.List.{List, [], _∷_, _++_, map, append-assoc, List·Memᴰ, List·Memᴰ·head, List·Memᴰ·tail}
+use mathlib.Core.List.{List, [], _∷_, _++_, List·Memᴰ, List·Memᴰ·head, List·Memᴰ·tail}
 use lib.Dec.{T}
-use lib.ListN.{length}
 use Rattle.literal.specs.declared.Tag.{Tag}
 use Rattle.literal.specs.declared.SignedAtom.{SignedAtom}
 use Rattle.literal.specs.declared.Literal.{Literal}
-use Rattle.literal.specs.declared.Literal.the-variants.{Signed, Defeated, Derived, RuleDefeated}
+use Rattle.literal.specs.declared.Literal.the-variants.{Signed, Defeated, Derived}
 use Rattle.semantics.specs.Set.{LiteralSet, any, all}
-use Rattle.semantics.specs.Rule.{Rule, strict, defeasible, Program, Remainder}
+use Rattle.semantics.specs.Rule.{Rule, strict, defeasible, Program}
 use Rattle.semantics.specs.Meaning.{remainder, quotient, satisfied, models}
 use Rattle.semantics.specs.Translation.{ruleDefeated, choice, allDefeated, holdsIfDerived, derivedIfHolds, neverBoth, option, options, translatedRule, translationFrom, translation}
-use Rattle.semantics.proofs.Laws.Tests.{both, first, second, left, right, either, any-mem, any-found, all-mem, all-intro, any-append, all-append, any-map, all-map, along}
-use Rattle.semantics.proofs.Laws.Meaning.{quotient-append, models-append, models-quotient, Kept, kept-iff}
+use Rattle.semantics.proofs.Laws.Tests.{both, first, second, left, right, either, any-mem, any-found, any-append, all-append, any-map, all-map, along}
+use Rattle.semantics.proofs.Laws.Meaning.{models-quotient, Kept, kept-iff}
 use Rattle.semantics.proofs.Laws.Position.{At, here, there}
 
 -- what a model u of the translation's quotient by s must give of defeasible rule n with tag t, options h, body b and

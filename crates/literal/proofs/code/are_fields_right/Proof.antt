@@ -1,6 +1,6 @@
 -- `code::are_fields_right` meets its contract, arm by arm: each return rewrites by the tests that led there.
 -- Assumes nothing.
-use mathlib.Core.Path.{sym, _∙_, ap}
+use mathlib.Core.Path.{sym, _∙_}
 use borrow.Author.Needs.{needs}
 use borrow.Author.Tests.{le-leb, lt-leb, eq-eqb, ne-eqb}
 use Rattle.literal.proofs.Laws.Fields.{fields-signed, fields-defeated, fields-derived, fields-ruled, fields-none}

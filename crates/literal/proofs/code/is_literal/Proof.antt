@@ -1,6 +1,5 @@
 -- `code::is_literal` meets its contract: bytes spell a literal exactly where their fields are right.
 -- Assumes nothing.
-use mathlib.Core.Path.{sym, _∙_}
 use borrow.Author.Needs.{needs}
 use denote.Ref.{now}
 use Rattle.literal.proofs.Laws.Literal.{valid-fields}

@@ -1,7 +1,7 @@
 -- `read::is_head_signed` meets its contract. Invariant: the kinds from the start are signed if those left, from `at` on,
 -- are, and those lie before the slice's end. Measure: the literals left.
 -- Assumes nothing.
-use Prim.Native.Nat.{_+_, _*_, _≤_, _<_}
+use Prim.Native.Nat.{_+_, _*_, _≤_}
 use mathlib.Core.Path.{_≡_, sym, _∙_}
 use borrow.Author.Needs.{needs}
 use denote.Ref.{now}

@@ -1,6 +1,5 @@
 -- `read::read_end` meets its contract: at each return the tests that led there say which step of the definition ends it.
 -- Assumes nothing.
-use native.Mathlib.Omega.{arith}
 use mathlib.Core.Path.{sym, _∙_}
 use borrow.Author.Needs.{needs}
 use denote.Ref.{now}

@@ -1,7 +1,7 @@
 -- `read::read_literals` meets its contract. Invariant: the run from the start is the run that is left, from `at` on, and
 -- that much lies before the slice's end. Measure: the literals left.
 -- Assumes nothing.
-use Prim.Native.Nat.{_+_, _*_, _≤_, _<_}
+use Prim.Native.Nat.{_+_, _*_, _≤_}
 use mathlib.Core.Path.{_≡_, sym, _∙_, ap}
 use borrow.Author.Needs.{needs}
 use borrow.Author.Tests.{not-true, not-false}

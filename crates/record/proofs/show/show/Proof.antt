@@ -1,15 +1,13 @@
 -- `show::show` meets its contract: the part that the extent gives, or the empty part at the slice's start.
 -- Assumes nothing.
-use Prim.Native.Nat.{ℕ, _+_, _-_, _≤_}
+use Prim.Native.Nat.{ℕ}
 use native.Mathlib.Omega.{arith}
 use native.Mathlib.Nat.{add-sub-cancel-left}
-use mathlib.Core.Path.{_≡_, refl, sym, _∙_, ap, subst}
+use mathlib.Core.Path.{refl, sym, _∙_, ap}
 use borrow.Author.Needs.{needs}
 use denote.Ref.{now}
-use lib.ListN.{length, take, drop}
-use Rattle.record.specs.declared.Shown.{Shown}
-use Rattle.record.specs.Part.{PartAt}
-use Rattle.record.specs.Show.{shown, shownExtent}
+use lib.ListN.{take, drop}
+use Rattle.record.specs.Show.{shownExtent}
 use Rattle.record.proofs.Laws.Shown.{shown-fits}
 use Rattle.record.proofs.show.show.Statement.{statement}
 use Rattle.record.proofs.show.show.Tie as tie

@@ -1,15 +1,15 @@
 -- `show::walk` meets its contract. Invariant: the walk from the start is the walk that is left, from `at` on, and its
 -- records lie whole in the slice. Measure: the records left.
 -- Assumes nothing.
-use Prim.Native.Nat.{_+_, _≤_, _<_}
+use Prim.Native.Nat.{_+_, _≤_}
 use native.Mathlib.Omega.{arith}
 use mathlib.Core.Path.{_≡_, refl, sym, _∙_, ap}
 use borrow.Author.Needs.{needs}
 use denote.Ref.{now}
-use lib.ListN.{length, drop, length-drop, length-take}
-use Rattle.record.specs.Code.{sizeAt, walked, Walks}
+use lib.ListN.{length, drop, length-drop}
+use Rattle.record.specs.Code.{recordSize, walked, Walks}
 use Rattle.record.proofs.Laws.Literals.{part-to-end}
-use Rattle.record.proofs.Laws.Walk.{size-large, walks-more, walked-more, walks-last, walked-last, walks-start}
+use Rattle.record.proofs.Laws.Walk.{size-large, walks-more, walked-more, walked-last, walks-start}
 use Rattle.record.proofs.show.walk.Statement.{statement}
 use Rattle.record.proofs.show.walk.Tie as tie
 
@@ -24,17 +24,17 @@ loop-holds c =
     let s = now (c .before .args .s) in
     (omega (arith, walks-start s 0 (c .before .args .number) (c .before .pre), size-large (drop 0 s)), c .before .pre, refl)
 
-sub-size-of : tie.Need-sub-size-of Inv-loop μ-loop
-sub-size-of c = search needs
+sub-record-size : tie.Need-sub-record-size Inv-loop μ-loop
+sub-record-size c = search needs
 
-part-size-of-start : tie.Need-part-size-of-start Inv-loop μ-loop
-part-size-of-start c = search needs
+part-record-size-start : tie.Need-part-record-size-start Inv-loop μ-loop
+part-record-size-start c = search needs
 
-part-size-of-end : tie.Need-part-size-of-end Inv-loop μ-loop
-part-size-of-end c = search needs
+part-record-size-end : tie.Need-part-record-size-end Inv-loop μ-loop
+part-record-size-end c = search needs
 
-size-of-requires : tie.Need-size-of-requires Inv-loop μ-loop
-size-of-requires c κs =
+record-size-requires : tie.Need-record-size-requires Inv-loop μ-loop
+record-size-requires c κs =
     let a = c .before .before .before .before .args in
     let l = c .before .before .loop in
     rw (part-to-end (now (a .s)) (l .at)) (omega (arith, length-drop (l .at) (now (a .s))))
@@ -43,7 +43,7 @@ add-at : tie.Need-add-at Inv-loop μ-loop
 add-at c =
     let s = now (c .before .before .before .before .before .args .s) in
     let l = c .before .before .before .loop in
-    let size = c .size-of .ensures ∙ ap sizeAt (part-to-end s (l .at)) in
+    let size = c .record-size .ensures ∙ ap recordSize (part-to-end s (l .at)) in
     omega (arith, size, walks-start s (l .at) (l .left) (l .inv .1))
 
 sub-left : tie.Need-sub-left Inv-loop μ-loop
@@ -56,22 +56,22 @@ loop-again : tie.Need-loop-again Inv-loop μ-loop
 loop-again c =
     let s = now (c .before .before .before .before .before .args .s) in
     let l = c .before .before .before .loop in
-    let size = c .size-of .ensures ∙ ap sizeAt (part-to-end s (l .at)) in
+    let size = c .record-size .ensures ∙ ap recordSize (part-to-end s (l .at)) in
     let next = walks-more s (l .at) (l .left) (c .before .before .loop-test .taken) (l .inv .1) in
     let more = l .inv .2 ∙ walked-more s (l .at) (l .left) (c .before .before .loop-test .taken) in
-    rw size (omega (arith, walks-start s (l .at + sizeAt (drop (l .at) s)) _ (next .1), size-large (drop (l .at + sizeAt (drop (l .at) s)) s)), next .1, more)
+    rw size (omega (arith, walks-start s (l .at + recordSize (drop (l .at) s)) _ (next .1), size-large (drop (l .at + recordSize (drop (l .at) s)) s)), next .1, more)
 
-sub-size-of-2 : tie.Need-sub-size-of-2 Inv-loop μ-loop
-sub-size-of-2 c = search needs
+sub-record-size-2 : tie.Need-sub-record-size-2 Inv-loop μ-loop
+sub-record-size-2 c = search needs
 
-part-size-of-start-2 : tie.Need-part-size-of-start-2 Inv-loop μ-loop
-part-size-of-start-2 c = search needs
+part-record-size-start-2 : tie.Need-part-record-size-start-2 Inv-loop μ-loop
+part-record-size-start-2 c = search needs
 
-part-size-of-end-2 : tie.Need-part-size-of-end-2 Inv-loop μ-loop
-part-size-of-end-2 c = search needs
+part-record-size-end-2 : tie.Need-part-record-size-end-2 Inv-loop μ-loop
+part-record-size-end-2 c = search needs
 
-size-of-requires-2 : tie.Need-size-of-requires-2 Inv-loop μ-loop
-size-of-requires-2 c κs =
+record-size-requires-2 : tie.Need-record-size-requires-2 Inv-loop μ-loop
+record-size-requires-2 c κs =
     let a = c .before .before .before .before .args in
     let l = c .before .before .loop in
     rw (part-to-end (now (a .s)) (l .at)) (omega (arith, length-drop (l .at) (now (a .s))))
@@ -80,7 +80,7 @@ returns : tie.Need-returns Inv-loop μ-loop
 returns c =
     let s = now (c .before .before .before .before .before .args .s) in
     let l = c .before .before .before .loop in
-    let size = c .size-of2 .ensures ∙ ap sizeAt (part-to-end s (l .at)) in
+    let size = c .record-size2 .ensures ∙ ap recordSize (part-to-end s (l .at)) in
     rw size (sym (l .inv .2 ∙ walked-last s (l .at) (l .left) (c .before .before .loop-test .left) (l .inv .1)))
 
 pub walk-spec : {M : Type 1} → statement M
@@ -90,16 +90,16 @@ walk-spec =
     Inv-loop
     μ-loop
     loop-holds
-    sub-size-of
-    part-size-of-start
-    part-size-of-end
-    size-of-requires
+    sub-record-size
+    part-record-size-start
+    part-record-size-end
+    record-size-requires
     add-at
     sub-left
     loop-less
     loop-again
-    sub-size-of-2
-    part-size-of-start-2
-    part-size-of-end-2
-    size-of-requires-2
+    sub-record-size-2
+    part-record-size-start-2
+    part-record-size-end-2
+    record-size-requires-2
     returns)

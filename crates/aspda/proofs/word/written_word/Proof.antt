@@ -1,0 +1,26 @@
+-- `word::written_word` meets its contract, case by case.
+-- Assumes nothing.
+use mathlib.Core.Path.{sym, _∙_, ap, subst}
+use borrow.Author.Needs.{needs}
+use Rattle.aspda.specs.Words.{writtenWord, ShortWritten}
+use Rattle.aspda.proofs.word.written_word.Statement.{statement}
+use Rattle.aspda.proofs.word.written_word.Tie as tie
+
+enum-known-a : tie.Need-enum-known-a
+enum-known-a c = search needs
+
+enum-known-a-2 : tie.Need-enum-known-a-2
+enum-known-a-2 c = search needs
+
+refusal-word-requires : tie.Need-refusal-word-requires
+refusal-word-requires c κs = subst ShortWritten (c .before .a2 .given .1) (c .before .before .before .pre)
+
+returns : tie.Need-returns
+returns c = search needs
+
+returns-2 : tie.Need-returns-2
+returns-2 c = c .refusal-word .ensures ∙ sym (ap writtenWord (c .before .before .a2 .given .1))
+
+pub written-word-spec : {M : Type 1} → statement M
+written-word-spec =
+    tie.close (tie.spec enum-known-a enum-known-a-2 refusal-word-requires returns returns-2)

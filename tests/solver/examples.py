@@ -1,0 +1,48 @@
+"""Makes the byte files of examples/: the marked examples M1 and M3 and their translations.
+
+    python3 tests/solver/examples.py            write them afresh
+    python3 tests/solver/examples.py --check    compare instead
+"""
+
+import argparse
+import sys
+from pathlib import Path
+
+sys.dont_write_bytecode = True
+sys.path.insert(0, str(Path(__file__).resolve().parent.parent / "reference"))
+
+import samples                                                                  # noqa: E402
+from aspda import encoded_program, translation                                  # noqa: E402
+
+EXAMPLES = Path(__file__).resolve().parent.parent.parent / "examples"
+
+
+def files():
+    """The bytes of each file."""
+    made = {}
+    for name, rules in (("m1", samples.M1), ("m3", samples.M3)):
+        made[f"{name}.aspda"] = encoded_program(rules)
+        made[f"{name}.plain"] = encoded_program(translation(rules))
+    return made
+
+
+def is_as_made(name, data):
+    path = EXAMPLES / name
+    return path.is_file() and path.read_bytes() == data
+
+
+def main():
+    parser = argparse.ArgumentParser(description="make the byte files of examples/")
+    parser.add_argument("--check", action="store_true", help="compare instead")
+    options = parser.parse_args()
+    made = files()
+    if not options.check:
+        for name, data in made.items():
+            (EXAMPLES / name).write_bytes(data)
+    wrong = [name for name, data in made.items() if not is_as_made(name, data)]
+    print(f"{len(made)} files, {len(wrong)} failed{': ' if wrong else ''}{', '.join(wrong)}")
+    return 1 if wrong else 0
+
+
+if __name__ == "__main__":
+    sys.exit(main())
