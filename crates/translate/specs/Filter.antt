@@ -1,9 +1,10 @@
 -- The filter program (01, "The filter program"): what it writes to standard output for what it reads.
--- In order: its buffers; what it writes of an outcome; the filter.
+-- In order: its buffers; what it writes of an outcome, and what its buffer holds then; the filter.
 -- Assumes nothing.
 use Prim.Native.Nat.{ℕ, _+_}
 use mathlib.Core.List.{List}
 use lib.ListN.{take, replicate}
+use Rattle.buffer.specs.Write.{write}
 use Rattle.literal.specs.Limits.{source}
 use Rattle.record.specs.declared.Written.the-variants.{Length, Refused}
 use Rattle.record.specs.Refusal.{encodedRefusal}
@@ -24,6 +25,14 @@ printed o =
     elim (o .answer) [
       | Length n ↦ take n (o .buffer)
       | Refused x ↦ encodedRefusal x
+    ]
+
+-- what the buffer holds then: the result with what stood behind it, or an R: record over its start
+unfoldable pub printedInto : Outcome → List ℕ
+printedInto o =
+    elim (o .answer) [
+      | Length n ↦ o .buffer
+      | Refused x ↦ write (o .buffer) 0 (encodedRefusal x)
     ]
 
 -- standard output for standard input

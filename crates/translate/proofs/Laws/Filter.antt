@@ -29,7 +29,7 @@ use Rattle.record.specs.Code.{stepOf}
 use Rattle.record.proofs.Laws.Program.{step-size}
 use Rattle.record.proofs.Laws.Places.{Placed, refuse-if-placed, and-then-placed, record-placed}
 use Rattle.translate.specs.Translate.{translatedBytes, translated}
-use Rattle.translate.specs.Filter.{printed}
+use Rattle.translate.specs.Filter.{printed, printedInto}
 use Rattle.translate.specs.Meets.{Meets, Prints}
 
 module _ (F : Limits) where
@@ -107,20 +107,31 @@ length-refusal x = refl
 printedOf : Written → List ℕ → List ℕ
 printedOf w out = elim w [ Length n ↦ take n out | Refused x ↦ encodedRefusal x ]
 
+-- and what the buffer holds then
+intoOf : Written → List ℕ → List ℕ
+intoOf w out = elim w [ Length n ↦ out | Refused x ↦ write out 0 (encodedRefusal x) ]
+
 -- what is printed of a translation
 pub prints-length : (o : Outcome) (r : Written) (out : List ℕ) (n : ℕ) → Meets o r out → r ≡ Length n → n ≤ length out → Prints o n out
-unfolding printed printedOf
-prints-length o r out n m e h = record { within = h; bytes = ap (take n) (m .buffer) ∙ ap (λ (w : Written). printedOf w (o .buffer)) (sym e ∙ m .answer) }
+unfolding printed printedOf printedInto intoOf
+prints-length o r out n m e h =
+    record {
+      within = h;
+      bytes = ap (take n) (m .buffer) ∙ ap (λ (w : Written). printedOf w (o .buffer)) (sym e ∙ m .answer);
+      buffer = m .buffer ∙ ap (λ (w : Written). intoOf w (o .buffer)) (sym e ∙ m .answer);
+    }
 
 -- what is printed of a refusal
 pub prints-refusal : (o : Outcome) (r : Written) (d e : List ℕ) (x : Refusal) → Meets o r d → r ≡ Refused x → e ≡ write d 0 (encodedRefusal x) → 7 ≤ length e → Prints o 7 e
-unfolding printed printedOf
+unfolding printed printedOf printedInto intoOf
 prints-refusal o r d e x m q done h =
     record {
       within = h;
       bytes =
           ap (take 7) done ∙ ap (λ (k : ℕ). take k (write d 0 (encodedRefusal x))) seven
           ∙ take-write d 0 (encodedRefusal x) (omega arith) ∙ ap (λ (w : Written). printedOf w (o .buffer)) (sym q ∙ m .answer);
+      buffer =
+          done ∙ ap (λ (b : List ℕ). write b 0 (encodedRefusal x)) (m .buffer) ∙ ap (λ (w : Written). intoOf w (o .buffer)) (sym q ∙ m .answer);
     }
   where
     seven : 7 ≡ 0 + length (encodedRefusal x)
