@@ -1,7 +1,6 @@
 -- A literal and its five bytes (01, "Records": kind, tag, atom), in either form.
 -- In order: a literal's three fields and its bytes; the literals that a form takes; what five bytes spell in a form, and
--- whether they spell anything;
--- opposite literals. Not here: the order of literals (`Order`), the forms' figures (`Limits`).
+-- whether they spell anything; opposite literals. Not here: the order of literals (`Order`), the forms' figures (`Limits`).
 -- Assumes nothing.
 use Prim.Native.Nat.{ℕ}
 use mathlib.Core.Bool.{Bool, true, false, cond, _&&_, _||_}
@@ -58,12 +57,16 @@ negatedKind k = eqb k 1 || eqb k 3 || eqb k 5
 abbrev pub inRange : ℕ → ℕ → Bool
 inRange most n = leb 1 n && leb n most
 
+-- the literal's tag and its atom or rule number are in the form's ranges
+unfoldable pub ranged : Limits → Literal → Bool
+ranged F (Signed a) = inRange (F .atoms) (atomNumber a)
+ranged F (Defeated t a) = inRange (F .tags) (t .0) && inRange (F .atoms) (atomNumber a)
+ranged F (Derived t a) = inRange (F .tags) (t .0) && inRange (F .atoms) (atomNumber a)
+ranged F (RuleDefeated n) = inRange (F .numbers) (n .0)
+
 -- the form takes this literal: its kind, its tag and its atom or rule number are the form's
 unfoldable pub takes : Limits → Literal → Bool
-takes F (Signed a) = inRange (F .atoms) (atomNumber a)
-takes F (Defeated t a) = leb 3 (F .kinds) && inRange (F .tags) (t .0) && inRange (F .atoms) (atomNumber a)
-takes F (Derived t a) = leb 5 (F .kinds) && inRange (F .tags) (t .0) && inRange (F .atoms) (atomNumber a)
-takes F (RuleDefeated n) = leb 6 (F .kinds) && inRange (F .numbers) (n .0)
+takes F l = leb (kind l) (F .kinds) && ranged F l
 
 -- an atom with the sign of a kind
 unfoldable pub signedAtom : ℕ → ℕ → SignedAtom
@@ -91,13 +94,20 @@ unfoldable pub isValid : Decoded → Bool
 isValid (Valid l) = true
 isValid Wrong = false
 
--- the same of three fields: each kind's tag and atom or rule number in their ranges
+-- the tags of a kind run from 1 where it is a mark's, and are 0 else; the atom field holds a rule number in kind 6 alone
+unfoldable pub leastTag : ℕ → ℕ
+leastTag k = cond (leb 2 k && leb k 5) 1 0
+
+unfoldable pub mostTag : Limits → ℕ → ℕ
+mostTag F k = cond (leb 2 k && leb k 5) (F .tags) 0
+
+unfoldable pub mostNumber : Limits → ℕ → ℕ
+mostNumber F k = cond (eqb k 6) (F .numbers) (F .atoms)
+
+-- three fields are those of a literal of the form: the same question as `isValid`, without making the literal
 unfoldable pub fieldsRight : Limits → ℕ → ℕ → ℕ → Bool
 fieldsRight F k t a =
-    cond (leb k 1) (eqb t 0 && inRange (F .atoms) a)
-    (cond (leb k 3) (leb 3 (F .kinds) && inRange (F .tags) t && inRange (F .atoms) a)
-    (cond (leb k 5) (leb 5 (F .kinds) && inRange (F .tags) t && inRange (F .atoms) a)
-    (cond (eqb k 6) (leb 6 (F .kinds) && inRange (F .numbers) a && eqb t 0) false)))
+    leb k (F .kinds) && (leb k 6 && (leb (leastTag k) t && (leb t (mostTag F k) && inRange (mostNumber F k) a)))
 
 -- an atom and its explicit negation are opposite; marks have no opposite
 unfoldable pub opposite : SignedAtom → SignedAtom

@@ -13,10 +13,10 @@ use buffer::put::put_number;
 ghost use mathlib.Core.Path.{_≡_};
 ghost use mathlib.Core.Bool.{_&&_, cond};
 ghost use Prim.Native.Nat.{_+_, _≤_};
-ghost use lib.Dec.{leb, eqb};
+ghost use lib.Dec.{eqb};
 ghost use lib.ListN.{length};
 ghost use Rattle.buffer.specs.Write.{write};
-ghost use Rattle.literal.specs.Literal.{atomField, atomNumber, decoded, encoded, fieldsRight, inRange, isValid, kind, negatedKind, signedAtom, spelled, tagField, takes};
+ghost use Rattle.literal.specs.Literal.{atomField, atomNumber, decoded, encoded, fieldsRight, inRange, isValid, kind, leastTag, mostNumber, mostTag, negatedKind, signedAtom, spelled, tagField, takes};
 
 // Kinds 1, 3 and 5 are those of negated atoms.
 pub fn is_negated(kind: u8) -> bool
@@ -80,27 +80,29 @@ pub fn number_of(a: SignedAtom) -> u16
     }
 }
 
-// Whether the form takes marks up to this kind, and this tag and atom in them.
-fn is_mark_taken(lim: Limits, kind: u8, t: Tag, a: SignedAtom) -> bool
-    ensures { λ r. ⌜ r ≡ (leb kind (lim .kinds) && inRange (lim .tags) (t .0) && inRange (lim .atoms) (atomNumber a)) ⌝ }
+// Whether a mark's tag and atom are in their ranges.
+fn is_mark_in_range(lim: Limits, t: Tag, a: SignedAtom) -> bool
+    ensures { λ r. ⌜ r ≡ (inRange (lim .tags) (t .0) && inRange (lim .atoms) (atomNumber a)) ⌝ }
 {
-    is_mark_right(lim, kind, t.0, number_of(a))
+    if is_in_range(lim.tags, t.0) {
+        is_in_range(lim.atoms, number_of(a))
+    } else {
+        false
+    }
 }
 
 // Whether the form takes the literal.
 pub fn is_taken(lim: Limits, l: Literal) -> bool
     ensures { λ r. ⌜ r ≡ takes lim l ⌝ }
 {
+    if lim.kinds < kind_of(l) {
+        return false;
+    }
     match l {
         Literal::Signed(a) => is_in_range(lim.atoms, number_of(a)),
-        Literal::Defeated(t, a) => is_mark_taken(lim, 3, t, a),
-        Literal::Derived(t, a) => is_mark_taken(lim, 5, t, a),
-        Literal::RuleDefeated(n) => {
-            if lim.kinds < 6 {
-                return false;
-            }
-            is_in_range(lim.numbers, n.0)
-        }
+        Literal::Defeated(t, a) => is_mark_in_range(lim, t, a),
+        Literal::Derived(t, a) => is_mark_in_range(lim, t, a),
+        Literal::RuleDefeated(n) => is_in_range(lim.numbers, n.0),
     }
 }
 
@@ -121,46 +123,52 @@ pub fn decode(lim: Limits, s: &[u8]) -> Decoded
     }
 }
 
-// Whether a tag and an atom are in their ranges, in a form that takes marks up to this kind.
-fn is_mark_right(lim: Limits, kind: u8, tag: u16, atom: u16) -> bool
-    ensures { λ r. ⌜ r ≡ (leb kind (lim .kinds) && inRange (lim .tags) tag && inRange (lim .atoms) atom) ⌝ }
+// The least tag of a kind, the largest, and the largest atom or rule number.
+fn least_tag(kind: u8) -> u16
+    ensures { λ r. ⌜ r ≡ leastTag kind ⌝ }
+{
+    match kind {
+        2..=5 => 1,
+        _ => 0,
+    }
+}
+
+fn most_tag(lim: Limits, kind: u8) -> u16
+    ensures { λ r. ⌜ r ≡ mostTag lim kind ⌝ }
+{
+    match kind {
+        2..=5 => lim.tags,
+        _ => 0,
+    }
+}
+
+fn most_number(lim: Limits, kind: u8) -> u16
+    ensures { λ r. ⌜ r ≡ mostNumber lim kind ⌝ }
+{
+    match kind {
+        6 => lim.numbers,
+        _ => lim.atoms,
+    }
+}
+
+// Whether three fields are those of a literal of the form: what reading asks, with no literal made. The kind picks the
+// bounds, and no test branches by it: kinds come in no order that a processor could foresee.
+fn are_fields_right(lim: Limits, kind: u8, tag: u16, atom: u16) -> bool
+    ensures { λ r. ⌜ r ≡ fieldsRight lim kind tag atom ⌝ }
 {
     if lim.kinds < kind {
         return false;
     }
-    if is_in_range(lim.tags, tag) {
-        is_in_range(lim.atoms, atom)
-    } else {
-        false
+    if 6 < kind {
+        return false;
     }
-}
-
-// Whether three fields are those of a literal of the form: what reading asks, with no literal made.
-fn are_fields_right(lim: Limits, kind: u8, tag: u16, atom: u16) -> bool
-    ensures { λ r. ⌜ r ≡ fieldsRight lim kind tag atom ⌝ }
-{
-    match kind {
-        0..=1 => {
-            if tag == 0 {
-                is_in_range(lim.atoms, atom)
-            } else {
-                false
-            }
-        }
-        2..=3 => is_mark_right(lim, 3, tag, atom),
-        4..=5 => is_mark_right(lim, 5, tag, atom),
-        6 => {
-            if lim.kinds < 6 {
-                return false;
-            }
-            if is_in_range(lim.numbers, atom) {
-                tag == 0
-            } else {
-                false
-            }
-        }
-        _ => false,
+    if tag < least_tag(kind) {
+        return false;
     }
+    if most_tag(lim, kind) < tag {
+        return false;
+    }
+    is_in_range(most_number(lim, kind), atom)
 }
 
 // Whether the first five bytes of `s` spell a literal of the form.

@@ -1,5 +1,6 @@
 pub mod Refusal
 pub mod Result
+pub mod Meets
 pub mod Layout
 pub mod Reading
 pub mod Show

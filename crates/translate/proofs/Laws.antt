@@ -1,6 +1,3 @@
-pub mod Marks
-pub mod Options
-pub mod Rule
 pub mod Measure
 pub mod Translate
 pub mod Pass

@@ -1,9 +1,11 @@
 -- The filter program (01, "The filter program"): what it writes to standard output for what it reads.
--- In order: its buffers; what it writes of an outcome, and what its buffer holds then; the filter.
+-- In order: its buffers; what it writes of an outcome, and what its buffer holds then; the filter; what its function
+-- promises.
 -- Assumes nothing.
-use Prim.Native.Nat.{ℕ, _+_}
+use Prim.Native.Nat.{ℕ, _+_, _≤_}
+use mathlib.Core.Path.{_≡_}
 use mathlib.Core.List.{List}
-use lib.ListN.{take, replicate}
+use lib.ListN.{length, take, replicate}
 use Rattle.buffer.specs.Write.{write}
 use Rattle.literal.specs.Limits.{source}
 use Rattle.record.specs.declared.Written.the-variants.{Length, Refused}
@@ -38,3 +40,9 @@ printedInto o =
 -- standard output for standard input
 unfoldable pub filtered : List ℕ → List ℕ
 filtered input = printed (translated source (take inputSize input) (replicate outputSize 0))
+
+-- the first r bytes of the buffer are what the filter writes of the outcome; and the whole buffer
+pub record Prints (o : Outcome) (r : ℕ) (out : List ℕ) : Type 0 where
+  pub within : r ≤ length out
+  pub bytes : take r out ≡ printed o
+  pub buffer : out ≡ printedInto o

@@ -1,13 +1,13 @@
 // What the filter program does between reading and writing.
 
 use crate::pass::translate_source;
-use crate::refusal::write_refusal;
+use emit::refusal::write_refusal;
 use record::Written;
 ghost use Prim.Native.Nat.{_≤_, _<_};
 ghost use lib.ListN.{length};
 ghost use Rattle.literal.specs.Limits.{source};
 ghost use Rattle.translate.specs.Translate.{translated};
-ghost use Rattle.translate.specs.Meets.{Prints};
+ghost use Rattle.translate.specs.Filter.{Prints};
 
 // Leaves at the start of `out` what is to be printed, the translation or an R: record, and answers how many bytes that is.
 pub fn filter_translate(input: &[u8], out: &mut [u8]) -> usize

@@ -1,9 +1,5 @@
-// Translating a source program into a plain one, and what the filter program writes.
+// Translating a source program into a plain one, and what the filter program prints.
 
 pub mod filter;
-pub mod marks;
 pub mod measure;
-pub mod options;
 pub mod pass;
-pub mod refusal;
-pub mod rules;

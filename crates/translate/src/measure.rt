@@ -1,6 +1,6 @@
 // The length of a translation, before any of it is written.
 
-use crate::rules::measure_rule;
+use expand::rules::measure_rule;
 use literal::Limits;
 use record::Reason;
 use record::Refusal;

@@ -1,10 +1,10 @@
 // Translating: the source is measured, and then each rule's translation is written, in one pass each.
 
 use crate::measure::measure_source;
-use crate::rules::count_rules;
-use crate::rules::measure_rule;
-use crate::rules::write_rule;
-use buffer::put::put_number;
+use emit::records::write_end;
+use expand::rules::count_rules;
+use expand::rules::measure_rule;
+use expand::rules::write_rule;
 use literal::Limits;
 use literal::RuleNo;
 use literal::form::Source;
@@ -13,24 +13,10 @@ use record::Refusal;
 use record::Written;
 use record::show::record_size;
 ghost use mathlib.Core.Path.{_≡_};
-ghost use Prim.Native.Nat.{_+_, _≤_};
-ghost use lib.ListN.{length};
-ghost use Rattle.buffer.specs.Write.{write};
 ghost use Rattle.literal.specs.Limits.{source};
-ghost use Rattle.record.specs.Layout.{encodedEnd};
 ghost use Rattle.translate.specs.Translate.{translated};
 ghost use Rattle.translate.specs.Measure.{Writable, Translatable};
-ghost use Rattle.translate.specs.Meets.{Meets};
-
-// The end record.
-fn write_end(rules: u16, out: &mut [u8], to: usize)
-    requires { ⌜ to + 4 ≤ length (now out) ⌝ }
-    ensures { λ _. ⌜ now (out .exit) ≡ write (now (out .entry)) to (encodedEnd rules) ⌝ }
-{
-    out[to] = b'E';
-    out[to + 1] = b':';
-    put_number(out, to + 2, rules);
-}
+ghost use Rattle.record.specs.Meets.{Meets};
 
 // The second pass: the translation of a source that was measured, in the form that `lim` gives. Each byte is written once.
 fn write_rules(lim: Limits, s: &[u8], out: &mut [u8])

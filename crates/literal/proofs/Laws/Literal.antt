@@ -12,7 +12,7 @@ use lib.Ieee.Bits.{is-true}
 use lib.Ieee.Fits.{and-l, and-r}
 use lib.ListN.{length, getD, take, drop, take-append-drop}
 use lib.Seq.{getD-take}
-use borrow.Author.Tests.{eqb-true, ne-eqb, lt-leb}
+use borrow.Author.Tests.{eqb-true, ne-eqb, le-leb, lt-leb}
 use Rattle.buffer.specs.Bytes.{Bytes, twoBytes, numberAt}
 use Rattle.buffer.specs.Write.{write}
 use Rattle.buffer.proofs.Laws.Write.{write-write}
@@ -24,8 +24,8 @@ use Rattle.literal.specs.declared.Literal.{Literal}
 use Rattle.literal.specs.declared.Literal.the-variants.{Signed, Defeated, Derived, RuleDefeated}
 use Rattle.literal.specs.declared.Decoded.{Decoded}
 use Rattle.literal.specs.declared.Decoded.the-variants.{Valid, Wrong}
-use Rattle.literal.specs.Literal.{atomNumber, kind, tagField, atomField, encoded, inRange, takes}
-use Rattle.literal.specs.Literal.{negatedKind, signedAtom, spelled, within, decoded, isValid, fieldsRight}
+use Rattle.literal.specs.Literal.{atomNumber, kind, tagField, atomField, encoded, inRange, ranged, takes}
+use Rattle.literal.specs.Literal.{negatedKind, signedAtom, spelled, within, decoded, isValid}
 
 -- the largest kind
 pub kind-most : (l : Literal) → kind l ≤ 6
@@ -112,7 +112,7 @@ fields-untagged t m l h e = go (eqb t 0) refl e
     go false q e = absurd (never-valid e)
 
 -- no literal has a kind above 6
-spelled-above : (k t a : ℕ) → 6 < k → spelled k t a ≡ Wrong
+pub spelled-above : (k t a : ℕ) → 6 < k → spelled k t a ≡ Wrong
 unfolding spelled
 spelled-above k t a h =
     simp (lt-leb k 1 (omega arith), lt-leb k 3 (omega arith), lt-leb k 5 (omega arith), ne-eqb k 6 (omega arith))
@@ -225,33 +225,44 @@ module _ (F : Limits) where
         ap (decoded F) (sym (take-append-drop 5 bs)) ∙ rw (p .0) (decoded-encoded l (drop 5 bs) (p .1)),
   )
 
-  -- the tag and the atom of a mark that the form takes
-  mark-fields :
-      (k t a : ℕ) →
-      T (leb k (F .kinds) && inRange (F .tags) t && inRange (F .atoms) a) →
-      (t ≤ F .tags) × (a ≤ F .atoms)
-  mark-fields k t a h =
-      let tagged = and-l (leb k (F .kinds) && inRange (F .tags) t) (inRange (F .atoms) a) h in (
-        in-range (F .tags) t (and-r (leb k (F .kinds)) (inRange (F .tags) t) tagged),
-        in-range (F .atoms) a (and-r (leb k (F .kinds) && inRange (F .tags) t) (inRange (F .atoms) a) h),
-      )
+  -- what the form takes is of its kinds, and in its ranges
+  pub takes-kind : (l : Literal) → T (takes F l) → kind l ≤ F .kinds
+  unfolding takes
+  takes-kind l h = leb→le (kind l) (F .kinds) (and-l (leb (kind l) (F .kinds)) (ranged F l) h)
 
-  -- the tag of a literal that the form takes
-  pub takes-tag : (l : Literal) → T (takes F l) → tagField l ≤ F .tags
-  unfolding takes tagField
-  takes-tag (Signed a) h = omega arith
-  takes-tag (Defeated t a) h = mark-fields 3 (t .0) (atomNumber a) h .0
-  takes-tag (Derived t a) h = mark-fields 5 (t .0) (atomNumber a) h .0
-  takes-tag (RuleDefeated n) h = omega arith
+  pub takes-ranged : (l : Literal) → T (takes F l) → T (ranged F l)
+  unfolding takes
+  takes-ranged l h = and-r (leb (kind l) (F .kinds)) (ranged F l) h
+
+  -- what is of its kinds and in its ranges, the form takes
+  pub takes-both : (l : Literal) → kind l ≤ F .kinds → T (ranged F l) → T (takes F l)
+  unfolding takes
+  takes-both l k h = rw (le-leb (kind l) (F .kinds) k) h
+
+  -- the tag of a literal in the form's ranges
+  ranged-tag : (l : Literal) → T (ranged F l) → tagField l ≤ F .tags
+  unfolding ranged tagField
+  ranged-tag (Signed a) h = omega arith
+  ranged-tag (Defeated t a) h = in-range (F .tags) (t .0) (and-l (inRange (F .tags) (t .0)) (inRange (F .atoms) (atomNumber a)) h)
+  ranged-tag (Derived t a) h = in-range (F .tags) (t .0) (and-l (inRange (F .tags) (t .0)) (inRange (F .atoms) (atomNumber a)) h)
+  ranged-tag (RuleDefeated n) h = omega arith
 
   -- its atom or rule number
+  ranged-atom : (l : Literal) → T (ranged F l) → atomField l ≤ max (F .atoms) (F .numbers)
+  unfolding ranged atomField
+  ranged-atom (Signed a) h = omega (arith, in-range (F .atoms) (atomNumber a) h)
+  ranged-atom (Defeated t a) h =
+      omega (arith, in-range (F .atoms) (atomNumber a) (and-r (inRange (F .tags) (t .0)) (inRange (F .atoms) (atomNumber a)) h))
+  ranged-atom (Derived t a) h =
+      omega (arith, in-range (F .atoms) (atomNumber a) (and-r (inRange (F .tags) (t .0)) (inRange (F .atoms) (atomNumber a)) h))
+  ranged-atom (RuleDefeated n) h = omega (arith, in-range (F .numbers) (n .0) h)
+
+  -- the same of a literal that the form takes
+  pub takes-tag : (l : Literal) → T (takes F l) → tagField l ≤ F .tags
+  takes-tag l h = ranged-tag l (takes-ranged l h)
+
   pub takes-atom : (l : Literal) → T (takes F l) → atomField l ≤ max (F .atoms) (F .numbers)
-  unfolding takes atomField
-  takes-atom (Signed a) h = omega (arith, in-range (F .atoms) (atomNumber a) h)
-  takes-atom (Defeated t a) h = omega (arith, mark-fields 3 (t .0) (atomNumber a) h)
-  takes-atom (Derived t a) h = omega (arith, mark-fields 5 (t .0) (atomNumber a) h)
-  takes-atom (RuleDefeated n) h =
-      omega (arith, in-range (F .numbers) (n .0) (and-r (leb 6 (F .kinds)) (inRange (F .numbers) (n .0)) h))
+  takes-atom l h = ranged-atom l (takes-ranged l h)
 
   -- the fields of a literal that the form takes fit two bytes where the form's figures do
   pub takes-fields :
@@ -262,55 +273,6 @@ module _ (F : Limits) where
       T (takes F l) →
       (tagField l < 65536) × (atomField l < 65536)
   takes-fields ht ha hn l h = (omega (arith, takes-tag l h), omega (arith, takes-atom l h))
-
--- the number under the sign of a kind is the atom
-atom-signed : (k a : ℕ) → atomNumber (signedAtom k a) ≡ a
-unfolding signedAtom
-atom-signed k a = go (negatedKind k)
-  where
-    go : (b : Bool) → atomNumber (cond b (Negative (record { 0 = a })) (Positive (record { 0 = a }))) ≡ a
-    go true = refl
-    go false = refl
-
--- a literal is right where the form takes it
-valid-taken : (F : Limits) (l : Literal) → isValid (within F (Valid l)) ≡ takes F l
-unfolding isValid within
-valid-taken F l = go (takes F l)
-  where
-    go : (b : Bool) → isValid (cond b (Valid l) Wrong) ≡ b
-    go true = refl
-    go false = refl
-
--- five bytes spell a literal of the form exactly where their fields are right
-pub valid-fields : (F : Limits) (bs : List ℕ) → isValid (decoded F bs) ≡ fieldsRight F (getD bs 0 0) (numberAt bs 1) (numberAt bs 3)
-unfolding decoded spelled fieldsRight isValid within takes
-valid-fields F bs = go (leb k 1) (leb k 3) (leb k 5) (eqb k 6) (eqb t 0)
-  where
-    k : ℕ
-    k = getD bs 0 0
-
-    t : ℕ
-    t = numberAt bs 1
-
-    a : ℕ
-    a = numberAt bs 3
-
-    s : SignedAtom
-    s = signedAtom k a
-
-    marked : (m : ℕ) → (leb m (F .kinds) && inRange (F .tags) t && inRange (F .atoms) (atomNumber s)) ≡ (leb m (F .kinds) && inRange (F .tags) t && inRange (F .atoms) a)
-    marked m = ap (λ (n : ℕ). leb m (F .kinds) && inRange (F .tags) t && inRange (F .atoms) n) (atom-signed k a)
-
-    go : (x y z w v : Bool)
-        → isValid (within F (cond x (cond v (Valid (Signed s)) Wrong) (cond y (Valid (Defeated (record { 0 = t }) s)) (cond z (Valid (Derived (record { 0 = t }) s)) (cond w (cond v (Valid (RuleDefeated (record { 0 = a }))) Wrong) Wrong)))))
-        ≡ cond x (v && inRange (F .atoms) a) (cond y (leb 3 (F .kinds) && inRange (F .tags) t && inRange (F .atoms) a) (cond z (leb 5 (F .kinds) && inRange (F .tags) t && inRange (F .atoms) a) (cond w (leb 6 (F .kinds) && inRange (F .numbers) a && v) false)))
-    go true y z w true = valid-taken F (Signed s) ∙ ap (inRange (F .atoms)) (atom-signed k a)
-    go true y z w false = refl
-    go false true z w v = valid-taken F (Defeated (record { 0 = t }) s) ∙ marked 3
-    go false false true w v = valid-taken F (Derived (record { 0 = t }) s) ∙ marked 5
-    go false false false true true = valid-taken F (RuleDefeated (record { 0 = a })) ∙ sym (and-true (leb 6 (F .kinds) && inRange (F .numbers) a))
-    go false false false true false = sym (and-false (leb 6 (F .kinds) && inRange (F .numbers) a))
-    go false false false false v = refl
 
 -- what is right is a literal, and what is not right is none
 pub valid-some : (d : Decoded) → isValid d ≡ true → (l : Literal) × (d ≡ Valid l)

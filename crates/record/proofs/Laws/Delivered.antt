@@ -1,6 +1,7 @@
--- What an operation that writes answers and leaves in the lent buffer. Assumes nothing.
+-- What an operation that writes answers and leaves in the lent buffer: a refusal, a result, or 9; what meets each.
+-- Assumes nothing.
 use Prim.Native.Nat.{ℕ, _≤_, _<_}
-use mathlib.Core.Path.{_≡_, refl, ap}
+use mathlib.Core.Path.{_≡_, refl, sym, _∙_, ap}
 use mathlib.Core.Bool.{Bool, true, false}
 use mathlib.Core.List.{List}
 use lib.ListN.{length}
@@ -10,7 +11,9 @@ use Rattle.record.specs.declared.Reason.the-variants.{OutputShort}
 use Rattle.record.specs.declared.Refusal.{Refusal}
 use Rattle.record.specs.declared.Written.the-variants.{Length, Refused}
 use Rattle.record.specs.Refusal.{refusal}
-use Rattle.record.specs.Result.{accepted, refused, Outcome, delivered}
+use Rattle.record.specs.declared.Written.{Written}
+use Rattle.record.specs.Result.{Result, accepted, refused, Outcome, delivered}
+use Rattle.record.specs.Meets.{Meets}
 
 -- a refusal leaves the buffer as it came
 pub delivered-refused : (x : Refusal) (out : List ℕ) → delivered (refused x) out ≡ record { answer = Refused x; buffer = out }
@@ -34,3 +37,23 @@ module _ (bs out : List ℕ) where
   pub delivered-short : length out < length bs → delivered (accepted bs) out ≡ record { answer = Refused (refusal OutputShort 0); buffer = out }
   unfolding delivered choose
   delivered-short h = ap choose (lt-ltb (length out) (length bs) h)
+
+-- an answer and a buffer that are an outcome's meet it
+meets : {o q : Outcome} → o ≡ q → Meets o (q .answer) (q .buffer)
+meets e = record { answer = ap (λ (w : Outcome). w .answer) (sym e); buffer = ap (λ (w : Outcome). w .buffer) (sym e) }
+
+module _ (q : Result (List ℕ)) (out : List ℕ) where
+  -- a refusal is answered, and the buffer stays
+  pub meets-refused : (x : Refusal) → q ≡ refused x → Meets (delivered q out) (Refused x) out
+  meets-refused x e = meets (ap (λ (w : Result (List ℕ)). delivered w out) e ∙ delivered-refused x out)
+
+  module _ (bs : List ℕ) (e : q ≡ accepted bs) where
+    -- 9 is answered for a shorter buffer, which stays
+    pub meets-short : length out < length bs → Meets (delivered q out) (Refused (refusal OutputShort 0)) out
+    meets-short h = meets (ap (λ (w : Result (List ℕ)). delivered w out) e ∙ delivered-short bs out h)
+
+    -- the result's length is answered for one that is long enough, and the result stands at its start
+    pub meets-written : length bs ≤ length out → (n : ℕ) (d : List ℕ) → n ≡ length bs → d ≡ write out 0 bs → Meets (delivered q out) (Length n) d
+    meets-written h n d long done =
+        let m = meets (ap (λ (w : Result (List ℕ)). delivered w out) e ∙ delivered-fits bs out h) in
+        record { answer = ap Length long ∙ m .answer; buffer = done ∙ m .buffer }

@@ -9,10 +9,12 @@ use lib.Dec.{T, leb, leb→le, le→leb}
 use lib.ListN.{length}
 use Rattle.literal.specs.declared.Limits.{Limits}
 use Rattle.literal.specs.declared.SignedAtom.{SignedAtom}
+use Rattle.literal.specs.declared.SignedAtom.the-variants.{Positive, Negative}
 use Rattle.literal.specs.declared.Literal.{Literal}
 use Rattle.literal.specs.declared.Literal.the-variants.{Signed, Defeated, Derived, RuleDefeated}
-use Rattle.literal.specs.Literal.{atomNumber, takes, inRange}
+use Rattle.literal.specs.Literal.{atomNumber, kind, inRange, ranged, takes}
 use Rattle.literal.specs.declared.Tag.{Tag}
+use Rattle.literal.proofs.Laws.Literal.{kind-most, takes-kind, takes-ranged, takes-both}
 use Rattle.semantics.specs.Set.{LiteralSet, all}
 use Rattle.semantics.specs.Rule.{Rule, defeasible, Program, head, positive, naf}
 use Rattle.semantics.specs.Translation.{ruleDefeated}
@@ -63,14 +65,12 @@ module _ (F : Limits) (r : Rule) (k : T (keepsRule F r)) where
 
 -- a form whose largest kind is 3 takes literals of source kinds alone
 pub takes-source : (F : Limits) → F .kinds ≤ 3 → (l : Literal) → T (takes F l) → T (sourceKind l)
-unfolding takes sourceKind
-takes-source F s (Signed a) t = tt
+unfolding sourceKind kind
+takes-source F s (Signed a) y = tt
 takes-source F s (Defeated t a) y = tt
-takes-source F s (Derived t a) y =
-    let k = first (leb 5 (F .kinds)) (inRange (F .tags) (t .0)) (first (leb 5 (F .kinds) && inRange (F .tags) (t .0)) (inRange (F .atoms) (atomNumber a)) y) in
-    absurd (omega (arith, leb→le 5 (F .kinds) k))
-takes-source F s (RuleDefeated n) y =
-    absurd (omega (arith, leb→le 6 (F .kinds) (first (leb 6 (F .kinds)) (inRange (F .numbers) (n .0)) y)))
+takes-source F s (Derived t (Positive a)) y = absurd (omega (arith, takes-kind F (Derived t (Positive a)) y))
+takes-source F s (Derived t (Negative a)) y = absurd (omega (arith, takes-kind F (Derived t (Negative a)) y))
+takes-source F s (RuleDefeated n) y = absurd (omega (arith, takes-kind F (RuleDefeated n) y))
 
 pub source-rules : (F : Limits) → F .kinds ≤ 3 → (p : Program) → T (all (keepsRule F) p) → T (all sourceRule p)
 unfolding sourceRule
@@ -97,40 +97,49 @@ in-range-mono m k n h y =
     (le→leb n k (omega (arith, leb→le n m (second (leb 1 n) (leb n m) y))))
 
 module _ (F G : Limits) (covers : Covers F G) where
+  -- a literal in G's ranges
+  covered : (l : Literal) → T (ranged G l) → T (takes G l)
+  covered l y = takes-both G l (omega (arith, kind-most l, covers .kinds)) y
+
   -- a tag with an atom, in F and in G
-  marks : (m : ℕ) → m ≤ 6 → (t : Tag) (a : SignedAtom) → T (inRange (F .tags) (t .0)) → T (inRange (F .atoms) (atomNumber a))
-      → T (leb m (G .kinds) && inRange (G .tags) (t .0) && inRange (G .atoms) (atomNumber a))
-  marks m h t a y z =
-      both (leb m (G .kinds) && inRange (G .tags) (t .0)) (inRange (G .atoms) (atomNumber a))
-      (both (leb m (G .kinds)) (inRange (G .tags) (t .0)) (le→leb m (G .kinds) (omega (arith, covers .kinds))) (in-range-mono (F .tags) (G .tags) (t .0) (covers .tags) y))
+  marks : (t : Tag) (a : SignedAtom) → T (inRange (F .tags) (t .0)) → T (inRange (F .atoms) (atomNumber a))
+      → T (inRange (G .tags) (t .0) && inRange (G .atoms) (atomNumber a))
+  marks t a y z =
+      both (inRange (G .tags) (t .0)) (inRange (G .atoms) (atomNumber a))
+      (in-range-mono (F .tags) (G .tags) (t .0) (covers .tags) y)
       (in-range-mono (F .atoms) (G .atoms) (atomNumber a) (covers .atoms) z)
 
+  signed : (a : SignedAtom) → T (takes F (Signed a)) → T (inRange (F .atoms) (atomNumber a))
+  unfolding ranged
+  signed a y = takes-ranged F (Signed a) y
+
   pub covers-signed : (a : SignedAtom) → T (takes F (Signed a)) → T (takes G (Signed a))
-  unfolding takes
-  covers-signed a y = in-range-mono (F .atoms) (G .atoms) (atomNumber a) (covers .atoms) y
+  unfolding ranged
+  covers-signed a y = covered (Signed a) (in-range-mono (F .atoms) (G .atoms) (atomNumber a) (covers .atoms) (signed a y))
 
   pub covers-defeated : (t : Tag) (a : SignedAtom) → T (takes F (Defeated t a)) → T (takes G (Defeated t a))
-  unfolding takes
+  unfolding ranged
   covers-defeated t a y =
-      marks 3 (omega arith) t a
-      (second (leb 3 (F .kinds)) (inRange (F .tags) (t .0)) (first (leb 3 (F .kinds) && inRange (F .tags) (t .0)) (inRange (F .atoms) (atomNumber a)) y))
-      (second (leb 3 (F .kinds) && inRange (F .tags) (t .0)) (inRange (F .atoms) (atomNumber a)) y)
+      let m = takes-ranged F (Defeated t a) y in
+      covered (Defeated t a)
+      (marks t a (first (inRange (F .tags) (t .0)) (inRange (F .atoms) (atomNumber a)) m)
+      (second (inRange (F .tags) (t .0)) (inRange (F .atoms) (atomNumber a)) m))
 
   -- the mark of an option of a rule within F's limits
   pub covers-derived : (t : Tag) (a : SignedAtom) → T (inRange (F .tags) (t .0)) → T (takes F (Signed a)) → T (takes G (Derived t a))
-  unfolding takes
-  covers-derived t a y z = marks 5 (omega arith) t a y z
+  unfolding ranged
+  covers-derived t a y z = covered (Derived t a) (marks t a y (signed a z))
 
   -- the defeat mark of such an option
   pub covers-mark : (t : Tag) (a : SignedAtom) → T (inRange (F .tags) (t .0)) → T (takes F (Signed a)) → T (takes G (Defeated t a))
-  unfolding takes
-  covers-mark t a y z = marks 3 (omega arith) t a y z
+  unfolding ranged
+  covers-mark t a y z = covered (Defeated t a) (marks t a y (signed a z))
 
   -- a number of a rule of a program within F's limits
   pub covers-number : (n : ℕ) → 1 ≤ n → n ≤ F .rules → T (takes G (ruleDefeated n))
-  unfolding takes
+  unfolding ranged
   covers-number n h k =
-      both (leb 6 (G .kinds)) (inRange (G .numbers) n) (le→leb 6 (G .kinds) (covers .kinds))
+      covered (ruleDefeated n)
       (both (leb 1 n) (leb n (G .numbers)) (le→leb 1 n h) (le→leb n (G .numbers) (omega (arith, covers .numbers))))
 
   -- the extension of a set of F's literals is a set of G's

@@ -2,18 +2,16 @@
 -- In order: places of what reading refuses; of what translating refuses; a length is within the buffer; what is printed; an
 -- R: record in pieces.
 -- Assumes nothing.
-use Prim.Native.Nat.{ℕ, zero, suc, _+_, _/_, _%_, _≤_}
+use Prim.Native.Nat.{ℕ, zero, suc, _+_, _≤_}
 use native.Mathlib.Omega.{arith}
 use mathlib.Core.Path.{_≡_, refl, sym, _∙_, ap, subst}
 use mathlib.Core.Bool.{Bool, true, false}
-use mathlib.Core.List.{List, [], _∷_, _++_}
+use mathlib.Core.List.{List, [], _∷_}
 use lib.Dec.{ltb}
-use lib.ListN.{length, take, drop, set, length-drop}
+use lib.ListN.{length, take, drop, length-drop}
 use borrow.Author.Tests.{ltb-false}
-use Rattle.buffer.specs.Bytes.{twoBytes, fourBytes}
 use Rattle.buffer.specs.Write.{write}
-use Rattle.buffer.proofs.Laws.Write.{sets-write, take-write}
-use Rattle.buffer.proofs.Laws.Next.{write-behind}
+use Rattle.buffer.proofs.Laws.Write.{take-write}
 use Rattle.literal.specs.declared.Limits.{Limits}
 use Rattle.semantics.specs.Rule.{Rule, Program}
 use Rattle.semantics.specs.Translation.{translation}
@@ -21,7 +19,7 @@ use Rattle.record.specs.declared.Reason.the-variants.{OutputShort}
 use Rattle.record.specs.declared.Refusal.{Refusal}
 use Rattle.record.specs.declared.Written.{Written}
 use Rattle.record.specs.declared.Written.the-variants.{Length, Refused}
-use Rattle.record.specs.Refusal.{refusal, shifted, refusalNumber, encodedRefusal}
+use Rattle.record.specs.Refusal.{refusal, shifted, encodedRefusal}
 use Rattle.record.specs.Result.{Result, accepted, refused, andThen, Outcome, delivered}
 use Rattle.record.specs.Layout.{encodedProgram}
 use Rattle.record.specs.Reading.{Entry, rule, end, recordAt, rulesFrom, parsed}
@@ -29,8 +27,8 @@ use Rattle.record.specs.Code.{stepOf}
 use Rattle.record.proofs.Laws.Program.{step-size}
 use Rattle.record.proofs.Laws.Places.{Placed, refuse-if-placed, and-then-placed, record-placed}
 use Rattle.translate.specs.Translate.{translatedBytes, translated}
-use Rattle.translate.specs.Filter.{printed, printedInto}
-use Rattle.translate.specs.Meets.{Meets, Prints}
+use Rattle.translate.specs.Filter.{printed, printedInto, Prints}
+use Rattle.record.specs.Meets.{Meets}
 
 module _ (F : Limits) where
   -- a rule's record lies within its part
@@ -136,12 +134,3 @@ prints-refusal o r d e x m q done h =
   where
     seven : 7 ≡ 0 + length (encodedRefusal x)
     seven = omega (arith, length-refusal x)
-
--- three stores and two numbers behind them write an R: record
-pub refusal-stores : (d e f : List ℕ) (x : Refusal) (n : ℕ) → 7 ≤ length d → n ≡ refusalNumber x → e ≡ write (set (set (set d 0 0x52) 1 0x3A) 2 n) 3 (twoBytes (x .place / 65536))
-    → f ≡ write e 5 (twoBytes (x .place % 65536)) → f ≡ write d 0 (encodedRefusal x)
-unfolding encodedRefusal
-refusal-stores d e f x n fits same one two =
-    write-behind d 0 ((0x52 ∷ (0x3A ∷ (n ∷ []))) ++ twoBytes (x .place / 65536)) 5 (twoBytes (x .place % 65536)) (omega arith) refl
-    (write-behind d 0 (0x52 ∷ (0x3A ∷ (n ∷ []))) 3 (twoBytes (x .place / 65536)) (omega arith) refl (sets-write d 0 (0x52 ∷ (0x3A ∷ (n ∷ []))) (omega arith)) one) two
-    ∙ ap (λ (m : ℕ). write d 0 (0x52 ∷ (0x3A ∷ (m ∷ fourBytes (x .place))))) same

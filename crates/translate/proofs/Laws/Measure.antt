@@ -30,9 +30,10 @@ use Rattle.record.proofs.Laws.Layout.{length-encoded-rule}
 use Rattle.record.proofs.Laws.Steps.{rules-refused, rules-rule, rules-end}
 use Rattle.record.proofs.Laws.Program.{step-refused}
 use Rattle.record.proofs.Laws.Sound.{EntryRule, record-sound}
-use Rattle.translate.specs.Writing.{Starts, lengthAt}
+use Rattle.emit.specs.Starts.{Starts}
+use Rattle.expand.specs.Writing.{lengthAt}
 use Rattle.translate.specs.Measure.{measuredOf, measured, measuredOn}
-use Rattle.translate.proofs.Laws.Rule.{told}
+use Rattle.expand.proofs.Laws.Sizes.{told}
 
 -- a step that is a rule is that record
 step-rule : (e : Result Entry) (size : ℕ) → stepOf e ≡ Step.Rule size → (r : Rule) × (e ≡ accepted (rule r size))

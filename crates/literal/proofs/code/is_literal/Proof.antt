@@ -2,7 +2,7 @@
 -- Assumes nothing.
 use borrow.Author.Needs.{needs}
 use denote.Ref.{now}
-use Rattle.literal.proofs.Laws.Literal.{valid-fields}
+use Rattle.literal.proofs.Laws.Fields.{valid-fields}
 use Rattle.literal.proofs.code.is_literal.Statement.{statement}
 use Rattle.literal.proofs.code.is_literal.Tie as tie
 

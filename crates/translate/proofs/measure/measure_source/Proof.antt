@@ -14,7 +14,7 @@ use Rattle.record.specs.Code.{stepOf}
 use Rattle.record.proofs.Laws.Literals.{part-to-end}
 use Rattle.record.proofs.Laws.Places.{step-place}
 use Rattle.translate.specs.Measure.{measured}
-use Rattle.translate.specs.Writing.{lengthAt}
+use Rattle.expand.specs.Writing.{lengthAt}
 use Rattle.translate.proofs.Laws.Measure.{step-starts, left, measured-long, measured-left, left-rule, left-end, left-refused}
 use Rattle.translate.proofs.measure.measure_source.Statement.{statement}
 use Rattle.translate.proofs.measure.measure_source.Tie as tie

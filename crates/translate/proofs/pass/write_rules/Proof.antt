@@ -11,7 +11,8 @@ use denote.Ref.{now}
 use Rattle.record.proofs.Laws.Literals.{part-to-end}
 use Rattle.translate.specs.Translate.{translated}
 use Rattle.record.specs.Code.{recordSize}
-use Rattle.translate.specs.Writing.{Starts, lengthAt, countAt}
+use Rattle.emit.specs.Starts.{Starts}
+use Rattle.expand.specs.Writing.{lengthAt, countAt}
 use Rattle.translate.proofs.Laws.Pass.{Left, Next, Pass, pass-start, pass-next, pass-left, short-source, left-open, left-next, left-end}
 use Rattle.translate.proofs.pass.write_rules.Statement.{statement}
 use Rattle.translate.proofs.pass.write_rules.Tie as tie

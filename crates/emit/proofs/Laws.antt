@@ -1,0 +1,4 @@
+pub mod Stores
+pub mod Fields
+pub mod Options
+pub mod Stands

@@ -1,0 +1,81 @@
+-- `copy::copy` meets its contract. Invariant: what is to be written at `to` is what is left to write at `next`. Measure:
+-- the bytes left.
+-- Assumes nothing.
+use Prim.Native.Nat.{_+_, _≤_, _-_}
+use native.Mathlib.Omega.{arith}
+use mathlib.Core.Path.{_≡_, refl, sym, _∙_, ap}
+use mathlib.Core.List.{[], _∷_}
+use lib.ListN.{length, getD, take, drop, length-set}
+use borrow.Author.Needs.{needs}
+use denote.Ref.{now}
+use Rattle.buffer.specs.Write.{write}
+use Rattle.buffer.proofs.Laws.Write.{write-nil, set-write}
+use Rattle.buffer.proofs.Laws.Next.{write-left}
+use Rattle.emit.proofs.Laws.Stores.{bytes-first, bytes-none}
+use Rattle.emit.proofs.copy.copy.Statement.{statement}
+use Rattle.emit.proofs.copy.copy.Tie as tie
+
+abbrev Inv-loop : tie.InvT-loop
+Inv-loop s from count out₀ to at₀ next₀ left₀ out at next left = (at + left ≤ length s) × (next + left ≤ length out) × (length out ≡ length out₀) × (write out₀ to (take count (drop from s)) ≡ write out next (take left (drop at s)))
+
+abbrev μ-loop : tie.MeasureT-loop
+μ-loop s from count out₀ to at₀ next₀ left₀ out at next left = left
+
+loop-holds : tie.Need-loop-holds Inv-loop μ-loop
+loop-holds c = search needs
+
+shared-slice-read-out : tie.Need-shared-slice-read-out Inv-loop μ-loop
+shared-slice-read-out c = search needs
+
+slice-write-out : tie.Need-slice-write-out Inv-loop μ-loop
+slice-write-out c = search needs
+
+add-at : tie.Need-add-at Inv-loop μ-loop
+add-at c = search needs
+
+add-next : tie.Need-add-next Inv-loop μ-loop
+add-next c = search needs
+
+sub-left : tie.Need-sub-left Inv-loop μ-loop
+sub-left c = search needs
+
+loop-less : tie.Need-loop-less Inv-loop μ-loop
+loop-less c = search needs
+
+loop-again : tie.Need-loop-again Inv-loop μ-loop
+loop-again c =
+    let l = c .before .before .loop in
+    let a = c .before .before .before .args in
+    let b = getD (now (a .s)) (l .at) 0 in (
+      search needs,
+      simp length-set (omega arith),
+      simp length-set (omega arith),
+      l .inv .3 ∙ ap (write (l .out) (l .next)) (bytes-first (now (a .s)) (l .at) (l .left) (c .before .loop-test .taken) (omega arith))
+          ∙ write-left (l .out) (l .next) (b ∷ []) (l .next + 1) (take (l .left - 1) (drop (l .at + 1) (now (a .s)))) (omega arith) refl _ (set-write (l .out) (l .next) b (omega arith)),
+    )
+
+same-length : tie.Need-same-length Inv-loop μ-loop
+same-length c = search needs
+
+returns : tie.Need-returns Inv-loop μ-loop
+returns c =
+    let l = c .before .loop in
+    let a = c .before .before .args in
+    sym (l .inv .3 ∙ ap (write (l .out) (l .next)) (bytes-none (now (a .s)) (l .at) (l .left) (c .loop-test .left)) ∙ write-nil (l .out) (l .next))
+
+pub copy-spec : {M : Type 1} → statement M
+copy-spec =
+    tie.close
+    (tie.spec
+    Inv-loop
+    μ-loop
+    loop-holds
+    shared-slice-read-out
+    slice-write-out
+    add-at
+    add-next
+    sub-left
+    loop-less
+    loop-again
+    same-length
+    returns)

@@ -1,0 +1,3 @@
+pub mod Header
+pub mod Starts
+pub mod Options

@@ -1,0 +1,4 @@
+pub mod Marks
+pub mod Options
+pub mod Rule
+pub mod Sizes
