@@ -1,8 +1,10 @@
-//! How fast reading and translating are, beside plain Rust on the same bytes, in one run.
+//! How fast each operation is, beside plain Rust on the same bytes, in one run.
 //! Both are built for release; the ratio is the proved code's speed over the plain one's.
 
 mod plain_reader;
+mod plain_sets;
 mod plain_translator;
+mod sets;
 
 use plain_reader::{Limits, PLAIN, SOURCE};
 use std::hint::black_box;
@@ -33,12 +35,12 @@ fn literal(out: &mut Vec<u8>, numbers: &mut Numbers, kinds: u32) {
     out.extend(number.to_be_bytes());
 }
 
-/// A program of `counts.len()` rules with these head, positive and naf counts; `defeasible`: every other rule.
-fn program(counts: &[(u8, u8, u8)], defeasible: bool, kinds: u32) -> Vec<u8> {
+/// A program of `counts.len()` rules with these head, positive and naf counts, whose rules `defeasible` have options.
+fn program(counts: &[(u8, u8, u8)], defeasible: fn(usize) -> bool, kinds: u32) -> Vec<u8> {
     let mut numbers = Numbers(7);
     let mut out = Vec::new();
     for (i, &(h, b, c)) in counts.iter().enumerate() {
-        let options = defeasible && i % 2 == 0;
+        let options = defeasible(i);
         out.extend(if options { *b"D:" } else { *b"S:" });
         out.extend((if options { 1 + numbers.below(200) as u16 } else { 0 }).to_be_bytes());
         out.extend([h, b, c]);
@@ -52,20 +54,20 @@ fn program(counts: &[(u8, u8, u8)], defeasible: bool, kinds: u32) -> Vec<u8> {
     out
 }
 
-/// The longest source: 256 rules of 16, 16 and 16 literals.
+/// The longest source: 256 rules of 16, 16 and 16 literals, every other one with options.
 fn source() -> Vec<u8> {
-    program(&[(16, 16, 16); 256], true, 4)
+    program(&[(16, 16, 16); 256], |i| i % 2 == 0, 4)
 }
 
 /// Options alone: the source whose translation is longest beside it.
 fn options() -> Vec<u8> {
-    program(&[(16, 0, 0); 256], true, 4)
+    program(&[(16, 0, 0); 256], |i| i % 2 == 0, 4)
 }
 
 /// The longest plain program: 12,800 rules of three and four literals.
 fn plain() -> Vec<u8> {
     let counts: Vec<(u8, u8, u8)> = (0..12_800).map(|i| if i < 7_168 { (1, 2, 1) } else { (1, 1, 1) }).collect();
-    program(&counts, false, 7)
+    program(&counts, |_| false, 7)
 }
 
 /// Seconds for one call of each: the best of many short batches, taken in turn, so that other work on the machine
@@ -90,9 +92,13 @@ fn row(name: &str, bytes: &[u8], limits: &Limits, proved: unsafe extern "C" fn(*
     let ours = || unsafe { proved(black_box(bytes).as_ptr(), bytes.len()) };
     let theirs = || plain_reader::read(black_box(limits), black_box(bytes));
     assert_eq!(ours(), theirs(), "the two readers disagree on {name}");
-    let (a, b) = best(ours, theirs);
-    let mb = bytes.len() as f64 / 1e6;
-    println!("{name:<14} {:>8} bytes  proved {:>8.1} MB/s  plain Rust {:>8.1} MB/s  ratio {:.2}", bytes.len(), mb / a, mb / b, b / a);
+    speed(name, bytes.len(), best(ours, theirs));
+}
+
+/// A line of the table, by the bytes read.
+fn speed(name: &str, length: usize, (a, b): (f64, f64)) {
+    let mb = length as f64 / 1e6;
+    println!("{name:<20} {length:>8} bytes  proved {:>8.1} MB/s  plain Rust {:>8.1} MB/s  ratio {:.2}", mb / a, mb / b, b / a);
 }
 
 /// The best time of a call that fills `out`, which is cleared before each, outside the time.
@@ -104,32 +110,38 @@ fn fill(best: &mut f64, out: &mut [u8], mut call: impl FnMut(&mut [u8]) -> u64) 
     word
 }
 
-/// Translating, by the output's bytes, and a copy of the same output.
-fn translate_row(name: &str, source: &[u8]) {
-    let room = 13 * source.len();
+/// Two calls that fill a lent buffer with the same result, by its bytes, and a copy of that result.
+fn output_row(name: &str, room: usize, mut proved: impl FnMut(&mut [u8]) -> u64, mut plain: impl FnMut(&mut [u8]) -> u64) {
     let (mut ours, mut theirs, mut copied) = (vec![0; room], vec![0; room], vec![0; room]);
     let (mut a, mut b, mut c) = (f64::MAX, f64::MAX, f64::MAX);
     let mut length = 0;
     for _ in 0..2_000 {
-        let word = fill(&mut a, &mut ours, |out| unsafe {
-            aspda_translate(black_box(source).as_ptr(), source.len(), out.as_mut_ptr(), out.len())
-        });
-        let same = fill(&mut b, &mut theirs, |out| plain_translator::translate(black_box(source), out));
-        assert_eq!(word, same, "the two translators disagree on {name}");
+        let word = fill(&mut a, &mut ours, &mut proved);
+        let same = fill(&mut b, &mut theirs, &mut plain);
+        assert_eq!(word, same, "the two disagree on {name}");
         length = word as usize;
         fill(&mut c, &mut copied, |out| {
             out[..length].copy_from_slice(black_box(&ours[..length]));
             0
         });
     }
-    assert!(ours == theirs && ours == copied, "the two translators disagree on {name}");
+    assert!(ours == theirs && ours == copied, "the two disagree on {name}");
     let mb = length as f64 / 1e6;
     println!(
-        "{name:<14} {length:>8} bytes  proved {:>8.1} MB/s  plain Rust {:>8.1} MB/s  ratio {:.2}  memcpy {:>8.1} MB/s",
+        "{name:<20} {length:>8} bytes  proved {:>8.1} MB/s  plain Rust {:>8.1} MB/s  ratio {:.2}  memcpy {:>8.1} MB/s",
         mb / a,
         mb / b,
         b / a,
         mb / c
+    );
+}
+
+fn translate_row(name: &str, source: &[u8]) {
+    output_row(
+        name,
+        13 * source.len(),
+        |out| unsafe { aspda_translate(black_box(source).as_ptr(), source.len(), out.as_mut_ptr(), out.len()) },
+        |out| plain_translator::translate(black_box(source), out),
     );
 }
 
@@ -138,4 +150,5 @@ fn main() {
     row("read plain", &plain(), &PLAIN, aspda_read_plain);
     translate_row("translate all", &source());
     translate_row("translate D:", &options());
-}
+    sets::rows();
+    }

@@ -11,6 +11,7 @@ pub struct Limits {
     pub atoms: u16,
     pub tags: u16,
     pub numbers: u16,
+    pub set: usize,
 }
 
 pub const SOURCE: Limits = Limits {
@@ -24,19 +25,21 @@ pub const SOURCE: Limits = Limits {
     atoms: 500,
     tags: 200,
     numbers: 256,
+    set: 1_000,
 };
 
-pub const PLAIN: Limits = Limits { length: 317_444, rules: 12_800, nafs: 17, defeasible: false, kinds: 6, ..SOURCE };
+pub const PLAIN: Limits =
+    Limits { length: 317_444, rules: 12_800, nafs: 17, defeasible: false, kinds: 6, set: 5_352, ..SOURCE };
 
 pub fn refusal(number: u64, place: usize) -> u64 {
     (1 << 63) + (number << 32) + place as u64
 }
 
-fn number(bytes: &[u8]) -> u16 {
+pub fn number(bytes: &[u8]) -> u16 {
     u16::from_be_bytes([bytes[0], bytes[1]])
 }
 
-fn is_literal(limits: &Limits, bytes: &[u8]) -> bool {
+pub fn is_literal(limits: &Limits, bytes: &[u8]) -> bool {
     let (kind, tag, atom) = (bytes[0], number(&bytes[1..3]), number(&bytes[3..5]));
     if kind > limits.kinds {
         return false;

@@ -14,24 +14,24 @@ fn sizes(record: &[u8]) -> (usize, usize, usize) {
 }
 
 /// Bytes written one behind the other into a lent slice.
-struct Out<'a> {
-    bytes: &'a mut [u8],
-    to: usize,
+pub struct Out<'a> {
+    pub bytes: &'a mut [u8],
+    pub to: usize,
 }
 
 impl Out<'_> {
-    fn put(&mut self, bytes: &[u8]) {
+    pub fn put(&mut self, bytes: &[u8]) {
         self.bytes[self.to..self.to + bytes.len()].copy_from_slice(bytes);
         self.to += bytes.len();
     }
 
-    fn header(&mut self, heads: u8, positives: u8, nafs: u8) {
+    pub fn header(&mut self, heads: u8, positives: u8, nafs: u8) {
         self.put(&[b'S', b':', 0, 0, heads, positives, nafs]);
     }
 }
 
 /// The five bytes of an option's mark: 2 and 3 are defeated, 4 and 5 derived.
-fn mark(first: u8, tag: &[u8], option: &[u8]) -> [u8; 5] {
+pub fn mark(first: u8, tag: &[u8], option: &[u8]) -> [u8; 5] {
     [first + option[0], tag[0], tag[1], option[3], option[4]]
 }
 

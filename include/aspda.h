@@ -1,8 +1,9 @@
 /* Yuldravn's functions for C. Link target/staticlib/libaspda.a (made by `rt staticlib aspda`).
  *
  * Every function answers one 64-bit word. A refusal is 2^63 + number * 2^32 + place, with document 01's number and the
- * byte offset of its place; all else is below 2^63. A pointer comes with its length and is never null. The functions
- * read and write nothing but the slices that they are lent, keep no state and take no memory of their own.
+ * byte offset of its place; all else is below 2^63. A pointer comes with its length and is never null; the slices of one
+ * call do not overlap. The functions read and write nothing but the slices that they are lent and their stack (at most
+ * 64 KiB of arrays, in aspda_extend), keep no state and take no other memory.
  */
 #ifndef ASPDA_H
 #define ASPDA_H
@@ -25,6 +26,24 @@ uint64_t aspda_read_plain(const uint8_t *p, size_t n);
 /* The translation of the source in p[0 .. n), written to out[0 .. m): the number of bytes written. It is at most thirteen
  * times n. A refusal leaves out as it was; bytes behind the result are left as they were. */
 uint64_t aspda_translate(const uint8_t *p, size_t n, uint8_t *out, size_t m);
+
+/* A set s[0 .. k) is an A: record that has its slice to itself. Where a program comes with a set, a refusal of the
+ * program's comes first. What a function writes goes to the start of out[0 .. m), and its answer is the number of bytes
+ * written. A refusal leaves out as it was; bytes behind the result are left as they were. */
+
+/* The quotient of the program in p[0 .. n) by the set: S: records with tag 0 and an end record. It is at most n bytes
+ * long. A source's set holds at most 1,000 literals of the source form, a plain program's at most 5,352 of the plain
+ * form. */
+uint64_t aspda_quotient_source(const uint8_t *p, size_t n, const uint8_t *s, size_t k, uint8_t *out, size_t m);
+uint64_t aspda_quotient_plain(const uint8_t *p, size_t n, const uint8_t *s, size_t k, uint8_t *out, size_t m);
+
+/* The extension of the source set by the source in p[0 .. n): the set with its derivation and rule-defeated marks, as an
+ * A: record. It is a plain set of at most 25,484 bytes. */
+uint64_t aspda_extend(const uint8_t *p, size_t n, const uint8_t *s, size_t k, uint8_t *out, size_t m);
+
+/* The restriction of the plain set: the set without its derivation and rule-defeated marks, as an A: record. It is at
+ * most k bytes long, and may hold more literals than a source's set. */
+uint64_t aspda_restrict(const uint8_t *s, size_t k, uint8_t *out, size_t m);
 
 /* Where the record of a rule lies, the rules being numbered from 1: start * 2^32 + length. */
 uint64_t aspda_show_source(const uint8_t *p, size_t n, uint32_t rule);

@@ -3,6 +3,7 @@
 #include "../include/aspda.h"
 
 #include <stdio.h>
+#include <string.h>
 
 int main(void)
 {
@@ -18,6 +19,21 @@ int main(void)
     plain[94] = 0xAA;
     uint64_t written = aspda_translate(source, sizeof source, plain, sizeof plain);
     if (written != 94 || aspda_read_plain(plain, 94) != 5 || plain[94] != 0xAA) return 4;
+    /* M5: {2, defeated (7,1)} gains derived (7,2) and rule-defeated 1; its restriction is the set again; the quotient keeps
+     * rules 2 and 3. */
+    const uint8_t m5[] = {0x44, 0x3A, 0, 7, 1, 0, 0, 0, 0, 0, 0, 1, 0x44, 0x3A, 0, 7, 1, 0, 0, 0, 0, 0, 0, 2,
+                          0x53, 0x3A, 0, 0, 1, 0, 0, 2, 0, 7, 0, 1, 0x45, 0x3A, 0, 3};
+    const uint8_t set[] = {0x41, 0x3A, 0, 2, 0, 0, 0, 0, 2, 2, 0, 7, 0, 1};
+    const uint8_t extended[] = {0x41, 0x3A, 0, 4, 0, 0, 0, 0, 2, 2, 0, 7, 0, 1, 4, 0, 7, 0, 2, 6, 0, 0, 0, 1};
+    uint8_t out[41];
+    if (aspda_extend(m5, sizeof m5, set, sizeof set, out, sizeof out) != sizeof extended) return 5;
+    if (memcmp(out, extended, sizeof extended) != 0) return 6;
+    if (aspda_restrict(extended, sizeof extended, out, sizeof out) != sizeof set) return 7;
+    if (memcmp(out, set, sizeof set) != 0) return 8;
+    if (aspda_quotient_source(m5, sizeof m5, set, sizeof set, out, sizeof out) != 28) return 9;
+    if (aspda_read_plain(out, 28) != 2) return 10;
+    refused = aspda_quotient_plain(out, 28, set, sizeof set, out + 28, 0);
+    if (ASPDA_REFUSAL_NUMBER(refused) != 9) return 11;
     puts("link.c: linked and answered");
     return 0;
 }

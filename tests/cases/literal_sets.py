@@ -4,7 +4,7 @@ from functools import lru_cache
 from typing import NamedTuple
 
 from aspda import (SOURCE, Literal, atom, defeated, derived, encoded_literals, encoded_set,
-                   negated, rule_defeated)
+                   is_of_form, negated, rule_defeated)
 from cases import faults
 from cases.operations import ACCEPTED
 from cases.slices import Slice, whole
@@ -61,6 +61,15 @@ def few(form):
         return [atom(1), atom(500), negated(256), defeated(7, atom(2)), defeated(200, negated(1))]
     return [atom(500), negated(1), defeated(200, atom(3)), derived(1, atom(256)),
             rule_defeated(256)]
+
+
+def neighbours(form, literal):
+    """The form's literals that differ from one in a single field, by little or by a whole byte."""
+    kind, tag, number = literal
+    near = [Literal(other, tag, number) for other in form.kinds]
+    near += [Literal(kind, tag + step, number) for step in (-1, 1)]
+    near += [Literal(kind, tag, number + step) for step in (-256, -1, 1, 256)]
+    return {other for other in near if other != literal and is_of_form(form, other)}
 
 
 def sizes(form, most):

@@ -46,6 +46,15 @@ def mixed_plain():
     ]
 
 
+def wide_rule(form):
+    """One rule with every count at its limit and no literal twice."""
+    options = [(negated if place % 3 == 0 else atom)(240 + place) for place in range(16)]
+    bodies = [defeated(1 + place, atom(256)) for place in range(16)]
+    if form is SOURCE:
+        return [defeasible(200, options, bodies, [negated(485 + place) for place in range(16)])]
+    return [strict(options, bodies, [derived(184 + place, negated(500)) for place in range(17)])]
+
+
 def small_samples(form):
     """Programs that are cut and changed at each byte."""
     if form is SOURCE:

@@ -35,7 +35,7 @@ def default_cases(operation, seed):
         yield from valid_programs(operation, rng("valid"))
     if operation.takes_set:
         yield from fed_sets(operation, rng("sets"))
-        yield from largest_sets(operation)
+        yield from sized_sets(operation)
     yield from order_of_refusals(operation, rng("order"))
     yield from one_refusal_each(operation, rng("refusals"))
     yield from PARTICULAR[operation.group](operation, rng("particular"))
@@ -177,13 +177,24 @@ def fed_sets(operation, rng):
                          stated=case.stated))
 
 
-def largest_sets(operation):
-    """Sets of the largest size with a buffer that just fits and one that does not."""
-    chosen = literal_sets.spread(operation.form, operation.set_limit())
+def sized_sets(operation):
+    """Sets of no, one and many literals in several buffers, and one literal too many in any."""
+    most = operation.set_limit()
+    for size in sorted({0, 1, 1_000, 1_001, most}):
+        if size <= most:
+            yield from with_rooms(Case(f"set-of-{size}", operation, small_program(operation),
+                                       set_of(operation, size)))
+    too_large = literal_sets.spread_set(operation.form, most + 1)
+    for room in (0, len(too_large) - 1, len(too_large), LARGEST_RESULT):
+        yield Case(f"set-of-{most + 1}-room-{room}", operation, small_program(operation), too_large,
+                   room=room, stated=(12, 0))
+
+
+def set_of(operation, size):
+    """So many literals; without opposites for the check, so that it goes on."""
     if operation.group == "check":
-        chosen = verdicts.stock(operation.form, CHECKED_LITERALS)
-    yield from with_rooms(Case(f"largest-set-{len(chosen)}", operation, small_program(operation),
-                               literal_set(chosen)))
+        return literal_set(verdicts.stock(operation.form, size))
+    return literal_sets.spread_set(operation.form, size)
 
 
 # ---------------------------------------------------------------------------------------------
@@ -323,7 +334,22 @@ def quotients(operation, rng):
     for name, chosen in (("nothing", set()), ("everything", set(literals))):
         yield from with_rooms(Case(f"mixed-{name}", operation, programs.program(small),
                                    literal_set(chosen)))
+    yield from single_changes(operation, "mixed", small)
+    yield from single_changes(operation, "wide", programs.wide_rule(form))
     yield from large_quotients(operation, rng)
+
+
+def single_changes(operation, name, rules):
+    """Sets of one literal, each of the program's and those beside it, and of all but one."""
+    program = programs.program(rules)
+    literals = samples.literals_of(rules)
+    near = set().union(*(literal_sets.neighbours(operation.form, one) for one in literals))
+    for literal in sorted(literals | near):
+        word = "-".join(map(str, literal))
+        yield ample(Case(f"{name}-by-{word}", operation, program, literal_set({literal})))
+        if literal in literals:
+            yield ample(Case(f"{name}-by-all-but-{word}", operation, program,
+                             literal_set(literals - {literal})))
 
 
 def large_quotients(operation, rng):
@@ -350,8 +376,22 @@ def extensions(operation, rng):
         chosen = samples.random_subset(rng, samples.literals_of(rules), 40)
         yield ample(Case(f"touching-{run}", operation, programs.program(rules),
                          literal_set(chosen)))
+    for name, rules in (("mixed", programs.mixed_source()), ("wide", programs.wide_rule(SOURCE))):
+        yield from single_changes(operation, name, rules)
+        yield from single_defeats(operation, name, rules)
     for name, rules, chosen in large_extensions(rng):
         yield from with_rooms(Case(name, operation, programs.program(rules), literal_set(chosen)))
+
+
+def single_defeats(operation, name, rules):
+    """An option alone, with its defeat mark, with a literal beside that mark."""
+    for rule in rules:
+        for head in sorted(set(rule.heads)) if rule.is_defeasible() else ():
+            mark = defeated(rule.tag, head)
+            for beside in sorted({head, mark} | literal_sets.neighbours(SOURCE, mark)):
+                word = "-".join(map(str, head + beside))
+                yield ample(Case(f"{name}-option-and-mark-{word}", operation,
+                                 programs.program(rules), literal_set({head, beside})))
 
 
 def large_extensions(rng):

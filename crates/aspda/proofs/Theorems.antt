@@ -9,13 +9,18 @@ use lib.ListN.{length, take, drop}
 use Rattle.buffer.specs.Bytes.{Bytes}
 use Rattle.buffer.specs.Write.{write}
 use Rattle.buffer.proofs.Laws.Write.{take-write, drop-write}
+use Rattle.literal.specs.declared.Limits.{Limits}
+use Rattle.literal.specs.declared.Literal.{Literal}
+use Rattle.literal.specs.Literal.{takes}
 use Rattle.literal.specs.Limits.{source, plain}
+use Rattle.semantics.specs.Set.{all}
 use Rattle.semantics.specs.Rule.{Program}
+use Rattle.semantics.specs.Extension.{sourceKind}
 use Rattle.semantics.specs.Translation.{translation, programLength, translationLength}
 use Rattle.semantics.specs.Match.{FormMatch}
 use Rattle.semantics.specs.Form.{keepsRules}
-use Rattle.semantics.proofs.Laws.Tests.{both, first}
-use Rattle.semantics.proofs.Laws.Form.{Covers}
+use Rattle.semantics.proofs.Laws.Tests.{both, first, all-mem, all-intro}
+use Rattle.semantics.proofs.Laws.Form.{Covers, takes-source}
 use Rattle.semantics.proofs.Laws.Length.{length-translation, count-translation, thirteenfold}
 use Rattle.semantics.proofs.Laws.Room.{Room, translation-keeps, translation-short}
 use Rattle.semantics.proofs.FormMatch.{form-match}
@@ -28,10 +33,65 @@ use Rattle.record.proofs.Laws.Reading.{parsed-sound, parsed-complete, reading-i
 use Rattle.record.proofs.Laws.Result.{accepted-and-then}
 use Rattle.record.proofs.Laws.Delivered.{delivered-fits}
 use Rattle.translate.specs.Translate.{translatedBytes, translated}
-use Rattle.aspda.specs.Claims.{Reading, Translates, Translating}
+use Rattle.litset.specs.Layout.{keepsSet}
+use Rattle.litset.specs.Reading.{parsedSet}
+use Rattle.litset.proofs.Laws.Reading.{parsed-set-sound, keeps-set-taken, keeps-set-ascending}
+use Rattle.quotient.specs.Quotient.{quotientProgram, quotientBytes, quotiented}
+use Rattle.quotient.proofs.Laws.Plain.{Within, quotient-read, source-within, plain-within}
+use Rattle.extend.proofs.Laws.Extend.{extension-list, extension-ascending-form}
+use Rattle.extend.proofs.Laws.Outcome.{extendable-source}
+use Rattle.extend.proofs.Laws.Added.{restriction-extension}
+use Rattle.extend.proofs.Laws.Restriction.{restriction-set}
+use Rattle.aspda.specs.Claims.{Reading, Quotients, Quotient, Extending, Translates, Translating}
 
 pub reading : Reading
 reading = record { reads-source = reading-iff source; reads-plain = reading-iff plain }
+
+-- quotients, in a form whose figures are within the plain form's
+quotients : (F : Limits) → Within F plain → Quotients F
+unfolding quotiented quotientBytes
+quotients F w =
+    record {
+      writes = λ b k p ls e q out fits.
+          ap (λ (r : Result Program). delivered (andThen r (λ p. andThen (parsedSet F (F .literals) k) (λ ls. accepted (encodedProgram (quotientProgram p ls))))) out) e
+          ∙ ap (λ (r : Result (List ℕ)). delivered r out) (accepted-and-then p (λ p. andThen (parsedSet F (F .literals) k) (λ ls. accepted (encodedProgram (quotientProgram p ls)))))
+          ∙ ap (λ (r : Result (List Literal)). delivered (andThen r (λ ls. accepted (encodedProgram (quotientProgram p ls)))) out) q
+          ∙ ap (λ (r : Result (List ℕ)). delivered r out) (accepted-and-then ls (λ ls. accepted (encodedProgram (quotientProgram p ls))))
+          ∙ delivered-fits (encodedProgram (quotientProgram p ls)) out fits;
+      reads-back = λ b p ls bytes e. quotient-read F plain w p ls (parsed-sound F b p bytes e .1);
+    }
+
+pub quotient : Quotient
+quotient = record { quotient-source = quotients source source-within; quotient-plain = quotients plain plain-within }
+
+-- a source set that is read holds literals of source kinds, in ascending order
+module _ (k : List ℕ) (ls : List Literal) (bytes : Bytes k) (read : parsedSet source (source .literals) k ≡ accepted ls) where
+  set-kept : T (keepsSet source (source .literals) ls)
+  set-kept = parsed-set-sound source (source .literals) k ls bytes read .1
+
+  set-taken : T (all (takes source) ls)
+  set-taken = keeps-set-taken source (source .literals) ls set-kept
+
+  set-source : T (all sourceKind ls)
+  unfolding source
+  set-source = all-intro sourceKind ls (λ l m. takes-source source (omega arith) l (all-mem (takes source) set-taken m))
+
+extend-kept : (b : List ℕ) (p : Program) → Bytes b → parsed source b ≡ accepted p → T (keepsRules source p)
+unfolding keeps
+extend-kept b p bytes read = first (keepsRules source p) (leb (length (encodedProgram p)) (source .length)) (parsed-sound source b p bytes read .1)
+
+source-kinds : source .kinds ≤ 3
+unfolding source
+source-kinds = omega arith
+
+pub extending : Extending
+extending =
+    record {
+      extends = λ b p ls bytes read. extension-list source extendable-source p (extend-kept b p bytes read) ls;
+      ascends = λ k p ls bytes read. extension-ascending-form source extendable-source source-kinds p ls (set-taken k ls bytes read) (keeps-set-ascending source (source .literals) ls (set-kept k ls bytes read));
+      returns = λ k p ls bytes read. restriction-extension p ls (set-source k ls bytes read);
+      restricts = restriction-set;
+    }
 
 -- the plain form has room for every translation of a source
 plain-covers : Covers source plain

@@ -1,6 +1,6 @@
 -- What is to be believed of the library, as types in the order of its demands. `proofs/Theorems.antt` proves each.
 -- The functions' contracts say that they answer what the definitions give, so these claims are about the functions.
--- In order: reading; the match; translating.
+-- In order: reading; quotients; extension and restriction; translating.
 -- Assumes nothing.
 use Prim.Native.Nat.{ℕ, _*_, _≤_}
 use mathlib.Core.Path.{_≡_}
@@ -9,16 +9,25 @@ use mathlib.Core.List.{List}
 use lib.Dec.{T}
 use lib.ListN.{length, take, drop}
 use Rattle.buffer.specs.Bytes.{Bytes}
+use Rattle.buffer.specs.Write.{write}
 use Rattle.literal.specs.declared.Limits.{Limits}
+use Rattle.literal.specs.declared.Literal.{Literal}
 use Rattle.literal.specs.Limits.{source, plain}
+use Rattle.semantics.specs.Set.{setOf}
 use Rattle.semantics.specs.Rule.{Program}
+use Rattle.semantics.specs.Extension.{extension, restriction}
 use Rattle.semantics.specs.Translation.{translation, translationLength, translatedCounts}
 use Rattle.semantics.specs.Match.{FormMatch}
 use Rattle.record.specs.declared.Written.the-variants.{Length}
 use Rattle.record.specs.Result.{accepted}
 use Rattle.record.specs.Layout.{encodedProgram, keeps}
 use Rattle.record.specs.Reading.{parsed}
+use Rattle.litset.specs.Layout.{ascending}
+use Rattle.litset.specs.Reading.{parsedSet}
 use Rattle.translate.specs.Translate.{translated}
+use Rattle.quotient.specs.Quotient.{quotientProgram, quotiented}
+use Rattle.extend.specs.Extend.{extensionList}
+use Rattle.extend.specs.Restrict.{restrictionList}
 
 -- demand 1, accepted half: reading in a form accepts exactly the encodings of programs within the form's limits
 abbrev pub Reads : Limits → Type 0
@@ -27,6 +36,26 @@ Reads F = (b : List ℕ) (p : Program) → Bytes b → (parsed F b ≡ accepted 
 pub record Reading : Type 0 where
   pub reads-source : Reads source
   pub reads-plain : Reads plain
+
+-- demand 2, quotients in a form: of a program and a set that are read, the quotient is written where there is room, and
+-- what is written is read in plain form as the quotient
+pub record Quotients (F : Limits) : Type 0 where
+  pub writes : (b k : List ℕ) (p : Program) (ls : List Literal) → parsed F b ≡ accepted p → parsedSet F (F .literals) k ≡ accepted ls
+      → (out : List ℕ) → length (encodedProgram (quotientProgram p ls)) ≤ length out
+      → quotiented F b k out ≡ record { answer = Length (length (encodedProgram (quotientProgram p ls))); buffer = write out 0 (encodedProgram (quotientProgram p ls)) }
+  pub reads-back : (b : List ℕ) (p : Program) (ls : List Literal) → Bytes b → parsed F b ≡ accepted p → parsed plain (encodedProgram (quotientProgram p ls)) ≡ accepted (quotientProgram p ls)
+
+pub record Quotient : Type 0 where
+  pub quotient-source : Quotients source
+  pub quotient-plain : Quotients plain
+
+-- demand 2, of a source and a source set that are read: the list that is written is the extension, ascending, and its
+-- restriction is the set that went in; of any list, the restriction is the meaning's
+pub record Extending : Type 0 where
+  pub extends : (b : List ℕ) (p : Program) (ls : List Literal) → Bytes b → parsed source b ≡ accepted p → setOf (extensionList p ls) ≡ extension p (setOf ls)
+  pub ascends : (k : List ℕ) (p : Program) (ls : List Literal) → Bytes k → parsedSet source (source .literals) k ≡ accepted ls → T (ascending (extensionList p ls))
+  pub returns : (k : List ℕ) (p : Program) (ls : List Literal) → Bytes k → parsedSet source (source .literals) k ≡ accepted ls → restrictionList (extensionList p ls) ≡ ls
+  pub restricts : (ls : List Literal) → setOf (restrictionList ls) ≡ restriction (setOf ls)
 
 -- demand 3, for the bytes b of a source that is read as p, and a lent buffer out that is long enough
 pub record Translates (b : List ℕ) (p : Program) (out : List ℕ) : Type 0 where

@@ -3,6 +3,10 @@
 use crate::word::reading_word;
 use crate::word::shown_word;
 use crate::word::written_word;
+use extend::extend::extend_source;
+use extend::restrict::restrict_plain;
+use quotient::quotient::quotient_plain;
+use quotient::quotient::quotient_source;
 use record::read::read_plain;
 use record::read::read_source;
 use record::show::find_plain;
@@ -13,6 +17,9 @@ ghost use Rattle.literal.specs.Limits.{source, plain};
 ghost use Rattle.record.specs.Reading.{reading};
 ghost use Rattle.record.specs.Show.{shown};
 ghost use Rattle.translate.specs.Translate.{translated};
+ghost use Rattle.quotient.specs.Quotient.{quotiented};
+ghost use Rattle.extend.specs.Extend.{extended};
+ghost use Rattle.extend.specs.Restrict.{restricted};
 ghost use Rattle.aspda.specs.Words.{readingWord, shownWord, MeetsWord};
 
 // The number of rules of a source, or the refusal.
@@ -37,6 +44,38 @@ pub extern "C" fn aspda_translate(s: &[u8], out: &mut [u8]) -> u64
     ensures { λ r. ⌜ MeetsWord (translated source (now (s .entry)) (now (out .entry))) r (now (out .exit)) ⌝ }
 {
     written_word(translate_source(s, out))
+}
+
+// The quotient of a source by a source set, written to the start of `out`: its length, or the refusal.
+#[no_mangle]
+pub extern "C" fn aspda_quotient_source(s: &[u8], k: &[u8], out: &mut [u8]) -> u64
+    ensures { λ r. ⌜ MeetsWord (quotiented source (now (s .entry)) (now (k .entry)) (now (out .entry))) r (now (out .exit)) ⌝ }
+{
+    written_word(quotient_source(s, k, out))
+}
+
+// The quotient of a plain program by a plain set, written to the start of `out`: its length, or the refusal.
+#[no_mangle]
+pub extern "C" fn aspda_quotient_plain(s: &[u8], k: &[u8], out: &mut [u8]) -> u64
+    ensures { λ r. ⌜ MeetsWord (quotiented plain (now (s .entry)) (now (k .entry)) (now (out .entry))) r (now (out .exit)) ⌝ }
+{
+    written_word(quotient_plain(s, k, out))
+}
+
+// The extension of a source set by a source, written to the start of `out`: its length, or the refusal.
+#[no_mangle]
+pub extern "C" fn aspda_extend(s: &[u8], k: &[u8], out: &mut [u8]) -> u64
+    ensures { λ r. ⌜ MeetsWord (extended source (now (s .entry)) (now (k .entry)) (now (out .entry))) r (now (out .exit)) ⌝ }
+{
+    written_word(extend_source(s, k, out))
+}
+
+// The restriction of a plain set, written to the start of `out`: its length, or the refusal.
+#[no_mangle]
+pub extern "C" fn aspda_restrict(k: &[u8], out: &mut [u8]) -> u64
+    ensures { λ r. ⌜ MeetsWord (restricted plain (now (k .entry)) (now (out .entry))) r (now (out .exit)) ⌝ }
+{
+    written_word(restrict_plain(k, out))
 }
 
 // Where rule `number` of a source lies, or the refusal.

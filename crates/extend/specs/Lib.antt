@@ -1,2 +1,3 @@
 pub mod Extend
+pub mod Marks
 pub mod Restrict

@@ -1,5 +1,6 @@
 -- The order of literals, that of their byte strings (01, "Records": strictly ascending as byte strings).
--- In order: the order of byte strings; a literal as one number, and five bytes as one number; the order of literals.
+-- In order: the order of byte strings; a literal as one number, and five bytes as one number; where these
+-- numbers end; the order of literals.
 -- Assumes nothing.
 use Prim.Native.Nat.{ℕ, _+_, _*_}
 use mathlib.Core.Bool.{Bool, true, false, _&&_, _||_}
@@ -26,6 +27,10 @@ key l = keyOf (kind l) (tagField l) (atomField l)
 
 unfoldable pub keyAt : List ℕ → ℕ
 keyAt bs = keyOf (getD bs 0 0) (numberAt bs 1) (numberAt bs 3)
+
+-- one more than the largest key of five bytes
+abbrev pub keyRoom : ℕ
+keyRoom = 1099511627776
 
 -- the order of literals
 unfoldable pub before : Literal → Literal → Bool

@@ -1,5 +1,5 @@
 -- The words have room for what the forms' limits allow. Assumes nothing.
-use Prim.Native.Nat.{ℕ, _<_}
+use Prim.Native.Nat.{ℕ, _+_, _*_, _≤_, _<_}
 use native.Mathlib.Omega.{arith}
 use mathlib.Core.Path.{_≡_, sym, ap}
 use mathlib.Core.Bool.{Bool, true, false}
@@ -9,6 +9,8 @@ use lib.ListN.{length}
 use Rattle.buffer.specs.Bytes.{Bytes}
 use Rattle.buffer.specs.Write.{write}
 use Rattle.literal.specs.declared.Limits.{Limits}
+use Rattle.literal.specs.declared.Literal.{Literal}
+use Rattle.semantics.specs.Rule.{Program}
 use Rattle.semantics.specs.Translation.{translation}
 use Rattle.record.specs.declared.Reason.the-variants.{OutputShort}
 use Rattle.record.specs.declared.Refusal.{Refusal}
@@ -16,14 +18,25 @@ use Rattle.record.specs.declared.Written.{Written}
 use Rattle.record.specs.declared.Reading.{Reading}
 use Rattle.record.specs.declared.Shown.{Shown}
 use Rattle.record.specs.Refusal.{refusal}
-use Rattle.record.specs.Result.{Result, accepted, refused, Outcome, delivered}
+use Rattle.record.specs.Result.{Result, accepted, refused, andThen, Outcome, delivered}
 use Rattle.record.specs.Layout.{encodedProgram}
 use Rattle.record.specs.Reading.{parsed, reading}
 use Rattle.record.specs.Show.{shown}
 use Rattle.record.proofs.Laws.Places.{Placed, and-then-placed}
 use Rattle.record.proofs.Laws.Bounds.{parsed-placed, reading-place, shown-place, shown-end}
 use Rattle.translate.specs.Translate.{translatedBytes, translated}
+use Rattle.litset.specs.Layout.{encodedSet}
+use Rattle.litset.specs.Reading.{parsedSet}
+use Rattle.litset.proofs.Laws.Places.{parsed-set-placed}
+use Rattle.quotient.specs.Quotient.{quotientProgram, quotientBytes, quotiented}
+use Rattle.extend.specs.Extend.{extensionList, extensionBytes, extended}
+use Rattle.extend.specs.Restrict.{restrictionList, restrictionBytes, restricted}
 use Rattle.aspda.specs.Words.{ShortReading, ShortWritten, ShortShown}
+
+-- a place within a larger bound
+placed-wider : {A : Type 0} (j k : ℕ) (r : Result A) → j ≤ k → Placed j r → Placed k r
+placed-wider j k (accepted a) h p = tt
+placed-wider j k (refused x) h p = omega arith
 
 -- a form whose length fits 31 bits
 module _ (F : Limits) (small : F .length < 2147483648) (s : List ℕ) where
@@ -58,3 +71,26 @@ module _ (F : Limits) (small : F .length < 2147483648) (s : List ℕ) where
   translated-short out a e =
       delivered-short (translatedBytes F s) out
       (and-then-placed (F .length) (parsed F s) (λ p. accepted (encodedProgram (translation p))) (parsed-placed F s) (λ p. tt)) a e
+
+  -- a program and a set, each read in a form whose sets are no longer than its programs, and what is made of them
+  made-short : 4 + 5 * F .literals ≤ F .length → (k out : List ℕ) (make : Program → List Literal → List ℕ) (a : Written)
+      → a ≡ delivered (andThen (parsed F s) (λ p. andThen (parsedSet F (F .literals) k) (λ ls. accepted (make p ls)))) out .answer → ShortWritten a
+  made-short h k out make a e =
+      delivered-short (andThen (parsed F s) (λ p. andThen (parsedSet F (F .literals) k) (λ ls. accepted (make p ls)))) out
+      (and-then-placed (F .length) (parsed F s) (λ p. andThen (parsedSet F (F .literals) k) (λ ls. accepted (make p ls))) (parsed-placed F s) (λ p.
+      and-then-placed (F .length) (parsedSet F (F .literals) k) (λ ls. accepted (make p ls)) (placed-wider (4 + 5 * F .literals) (F .length) (parsedSet F (F .literals) k) h (parsed-set-placed F (F .literals) k)) (λ ls. tt))) a e
+
+  pub quotiented-short : 4 + 5 * F .literals ≤ F .length → (k out : List ℕ) (a : Written) → a ≡ quotiented F s k out .answer → ShortWritten a
+  unfolding quotiented quotientBytes
+  quotiented-short h k out a e = made-short h k out (λ p ls. encodedProgram (quotientProgram p ls)) a e
+
+  pub extended-short : 4 + 5 * F .literals ≤ F .length → (k out : List ℕ) (a : Written) → a ≡ extended F s k out .answer → ShortWritten a
+  unfolding extended extensionBytes
+  extended-short h k out a e = made-short h k out (λ p ls. encodedSet (extensionList p ls)) a e
+
+  -- a set alone
+  pub restricted-short : 4 + 5 * F .literals ≤ F .length → (out : List ℕ) (a : Written) → a ≡ restricted F s out .answer → ShortWritten a
+  unfolding restricted restrictionBytes
+  restricted-short h out a e =
+      delivered-short (restrictionBytes F s) out
+      (and-then-placed (F .length) (parsedSet F (F .literals) s) (λ ls. accepted (encodedSet (restrictionList ls))) (placed-wider (4 + 5 * F .literals) (F .length) (parsedSet F (F .literals) s) h (parsed-set-placed F (F .literals) s)) (λ ls. tt)) a e

@@ -1,5 +1,6 @@
 -- Laws of the order of literals: byte strings compare as the numbers that they spell.
--- In order: the number of a byte string, and the order of byte strings by it; keys of five bytes; keys of literals.
+-- In order: the number of a byte string, and the order of byte strings by it; keys of five bytes; keys of literals; keys
+-- of what a form takes.
 -- Assumes nothing.
 use Prim.Native.Nat.{ℕ, _+_, _*_, _/_, _%_, _^_, _≤_, _<_}
 use mathlib.Core.Bool.{Bool, true, false, _&&_, _||_}
@@ -8,16 +9,20 @@ use mathlib.Core.Path.{_≡_, refl, sym, ap, _∙_}
 use native.Mathlib.Nat.{mul-le-mul-right, pow-succ'}
 use native.Mathlib.Omega.{arith}
 use lib.Arith.{digits-lt, digits-div, digits-mod}
-use lib.Dec.{ltb, eqb}
-use lib.ListN.{length, take}
+use lib.Dec.{T, ltb, leb, eqb, leb→le}
+use lib.Ieee.Fits.{and-l, and-r}
+use lib.ListN.{length, take, drop, take-append-drop}
 use lib.Seq.{length-take-le}
 use borrow.Author.Tests.{ltb-true, ltb-false, eqb-true, eqb-false, lt-ltb, le-ltb}
 use Rattle.buffer.specs.Bytes.{Bytes}
 use Rattle.buffer.proofs.Laws.Bytes.{bytes-tail, bytes-take, number-twoBytes}
+use Rattle.literal.specs.declared.Limits.{Limits}
 use Rattle.literal.specs.declared.Literal.{Literal}
-use Rattle.literal.specs.Literal.{kind, tagField, atomField, encoded}
-use Rattle.literal.specs.Order.{bytesBefore, key, keyAt, before}
-use Rattle.literal.proofs.Laws.Literal.{bytes-encoded, fields-injective}
+use Rattle.literal.specs.declared.Literal.the-variants.{Signed, Defeated, Derived, RuleDefeated}
+use Rattle.literal.specs.declared.Decoded.the-variants.{Valid}
+use Rattle.literal.specs.Literal.{atomNumber, kind, tagField, atomField, encoded, inRange, ranged, takes, decoded}
+use Rattle.literal.specs.Order.{bytesBefore, key, keyAt, keyRoom, before}
+use Rattle.literal.proofs.Laws.Literal.{bytes-encoded, fields-injective, encoded-decoded, takes-ranged}
 
 -- the number that a byte string spells, the highest byte first
 value : List ℕ → ℕ
@@ -80,6 +85,11 @@ keyAt-value (a ∷ b ∷ c ∷ []) n = absurd (omega arith)
 keyAt-value (a ∷ b ∷ c ∷ d ∷ []) n = absurd (omega arith)
 keyAt-value (a ∷ b ∷ c ∷ d ∷ e ∷ bs) n = omega arith
 
+-- and so it is below that of a 1 in front of five zeros
+pub keyAt-lt : (bs : List ℕ) → Bytes bs → keyAt bs < keyRoom
+unfolding keyAt
+keyAt-lt bs h = omega (arith, h 0, h 1, h 2, h 3, h 4)
+
 -- five bytes compare as their keys
 pub bytesBefore-keyAt :
     (bs cs : List ℕ) →
@@ -133,3 +143,28 @@ module _
         let low = digits-injective 65536 (top l) (atomField l) (top m) (atomField m) al am e in
         let high = digits-injective 65536 (kind l) (tagField l) (kind m) (tagField m) tl tm (low .0) in
         fields-injective l m (record { of-kind = high .0; of-tag = high .1; of-atom = low .1 })
+
+-- what is in range is not 0
+range-positive : (most n : ℕ) → T (inRange most n) → 0 < n
+range-positive most n h = leb→le 1 n (and-l (leb 1 n) (leb n most) h)
+
+module _ (F : Limits) where
+  -- atoms and rule numbers start at 1
+  ranged-positive : (l : Literal) → T (ranged F l) → 0 < atomField l
+  unfolding ranged atomField
+  ranged-positive (Signed a) h = range-positive (F .atoms) (atomNumber a) h
+  ranged-positive (Defeated t a) h =
+      range-positive (F .atoms) (atomNumber a) (and-r (inRange (F .tags) (t .0)) (inRange (F .atoms) (atomNumber a)) h)
+  ranged-positive (Derived t a) h =
+      range-positive (F .atoms) (atomNumber a) (and-r (inRange (F .tags) (t .0)) (inRange (F .atoms) (atomNumber a)) h)
+  ranged-positive (RuleDefeated n) h = range-positive (F .numbers) (n .0) h
+
+  -- so that no literal of a form has the key 0
+  pub key-positive : (l : Literal) → T (takes F l) → 0 < key l
+  unfolding key
+  key-positive l h = omega (arith, ranged-positive l (takes-ranged F l h))
+
+  -- five bytes that are decoded to a literal spell its key
+  pub keyAt-decoded : (bs : List ℕ) (l : Literal) → Bytes bs → 5 ≤ length bs → decoded F bs ≡ Valid l → keyAt bs ≡ key l
+  keyAt-decoded bs l h n e =
+      ap keyAt (sym (take-append-drop 5 bs)) ∙ rw (encoded-decoded F bs l h n e .0) (keyAt-encoded l (drop 5 bs))

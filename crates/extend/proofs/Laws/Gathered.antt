@@ -1,0 +1,130 @@
+-- Laws of what is gathered for an extension, from what reading gives: the marks, and the record that they make with the set.
+-- In order: a program whose marks can be collected; its marks by the set's keys; their fields; the keys that are sorted; the
+-- record.
+-- Assumes nothing.
+use Prim.Native.Nat.{ℕ, _+_, _*_, _<_}
+use native.Mathlib.Omega.{arith}
+use native.Mathlib.Nat.{mul-le-mul-right}
+use mathlib.Core.Path.{_≡_, refl, sym, _∙_, ap, ap₂}
+use mathlib.Core.Bool.{_&&_}
+use mathlib.Core.List.{List, _++_, map, append-assoc}
+use lib.Dec.{T, leb}
+use lib.ListN.{length, take, drop, length-append, length-map, length-take}
+use lib.Seq.{take-all}
+use Rattle.buffer.specs.Bytes.{Bytes}
+use Rattle.literal.specs.declared.Limits.{Limits}
+use Rattle.literal.specs.declared.Literal.{Literal}
+use Rattle.literal.specs.Order.{key}
+use Rattle.semantics.specs.Set.{LiteralSet, all, setOf}
+use Rattle.semantics.specs.Rule.{Rule, head, positive, naf, Program}
+use Rattle.semantics.specs.Form.{keepsCounts, keepsRule, keepsRules}
+use Rattle.semantics.proofs.Laws.Tests.{first, all-intro, all-mem}
+use Rattle.semantics.proofs.Laws.Form.{keeps-count, keeps-each, keeps-counts}
+use Rattle.record.specs.Result.{accepted}
+use Rattle.record.specs.Layout.{encodedLiterals, encodedProgram, keeps}
+use Rattle.record.specs.Reading.{parsed}
+use Rattle.record.proofs.Laws.Layout.{encoded-literals-append, length-encoded-literals}
+use Rattle.record.proofs.Laws.Reading.{parsed-sound}
+use Rattle.keys.specs.Keys.{sortedKeys, Sorted}
+use Rattle.keys.specs.Bytes.{keyBytes, Fitting}
+use Rattle.keys.proofs.Laws.Bytes.{fitting-sorted}
+use Rattle.litset.specs.Layout.{encodedSet}
+use Rattle.litset.specs.Reading.{parsedSet}
+use Rattle.litset.specs.Keys.{keySet}
+use Rattle.litset.proofs.Laws.Reading.{parsed-set-sound, length-encoded-set, keeps-set-most}
+use Rattle.litset.proofs.Laws.Keys.{has-key-member}
+use Rattle.extend.specs.Extend.{marksFrom, sorted, extensionList}
+use Rattle.litset.specs.Header.{setHeader}
+use Rattle.extend.specs.Marks.{most, Extendable, Marking, joined}
+use Rattle.extend.proofs.Laws.Sorted.{Narrow, keys-sorted, keyBytes-sorted, fitting-keys}
+use Rattle.extend.proofs.Laws.Agree.{marks-agree}
+use Rattle.extend.proofs.Laws.Narrow.{marks-fit}
+
+-- a rule within the limits has no more head literals than they allow
+pub few-heads : (F : Limits) (r : Rule) → T (keepsRule F r) → T (leb (length (head r)) (F .heads))
+unfolding keepsCounts
+few-heads F r k = first (leb (length (head r)) (F .heads)) (leb (length (positive r)) (F .positives) && leb (length (naf r)) (F .nafs)) (keeps-counts F r k)
+
+module _ (F : Limits) (ok : Extendable F) (s : List ℕ) (p : Program) (e : parsed F s ≡ accepted p) (bytes : Bytes s) where
+  -- the program keeps the limits
+  within : T (keepsRules F p)
+  unfolding keeps
+  within = first (keepsRules F p) (leb (length (encodedProgram p)) (F .length)) (parsed-sound F s p bytes e .1)
+
+  each : T (all (keepsRule F) p)
+  each = keeps-each F p within
+
+  -- its marks can be collected
+  pub marking : Marking s most
+  marking =
+      record {
+        program = p;
+        bytes = parsed-sound F s p bytes e .0;
+        heads = F .heads;
+        some = ok .some;
+        few = all-intro (λ r. leb (length (head r)) (F .heads)) p (λ r m. few-heads F r (all-mem (keepsRule F) each m));
+        short = omega (arith, keeps-count F p within, ok .rules);
+        fits = omega (arith, mul-le-mul-right (F .heads) (keeps-count F p within), ok .marks);
+      }
+
+  pub marking-program : marking .program ≡ p
+  unfolding marking
+  marking-program = refl
+
+  -- their fields fit two bytes
+  narrow-marks : (u : LiteralSet) → Narrow (marksFrom 1 p u)
+  narrow-marks u = marks-fit F ok u 1 p (omega (arith, keeps-count F p within, ok .rules)) each
+
+  module _ (k : List ℕ) (ls : List Literal) (m : parsedSet F (F .literals) k ≡ accepted ls) (places : Bytes k) where
+    -- the marks in the set that is searched are those in the set
+    same-marks : marksFrom 1 p (keySet k (length ls)) ≡ marksFrom 1 p (setOf ls)
+    same-marks = marks-agree F ok (keySet k (length ls)) (setOf ls) (λ l t a. has-key-member F (F .literals) k ls places m l t a) 1 p each
+
+    -- the set's literals, as they lie behind its count
+    literals-lie : take (5 * length ls) (drop 4 k) ≡ encodedLiterals ls
+    unfolding encodedSet
+    literals-lie =
+        ap (λ (x : List ℕ). take (5 * length ls) (drop 4 x)) (parsed-set-sound F (F .literals) k ls places m .0)
+        ∙ take-all (5 * length ls) (encodedLiterals ls) (omega (arith, length-encoded-literals ls))
+
+    module _ (d x : List ℕ) (n : ℕ) (room : length d ≡ most) (g : Sorted d x n (sortedKeys (map key (marksFrom 1 p (keySet k (length ls)))))) where
+      -- the keys that are sorted are those of the marks, sorted
+      front : take n x ≡ sortedKeys (map key (marksFrom 1 p (setOf ls)))
+      front = g .front ∙ ap (λ (ms : List Literal). sortedKeys (map key ms)) same-marks
+
+      -- as many as the marks, each once
+      pub gathered-count : n ≡ length (sorted (marksFrom 1 p (setOf ls)))
+      gathered-count =
+          omega (
+            arith,
+            length-take n x,
+            g .count,
+            g .same,
+            ap length (front ∙ sym (keys-sorted (marksFrom 1 p (setOf ls)))),
+            length-map (sorted (marksFrom 1 p (setOf ls))) key,
+          )
+
+      -- two bytes count them with the set's literals
+      pub gathered-few : length ls + n < 65536
+      gathered-few = omega (arith, g .count, keeps-set-most F (F .literals) ls (parsed-set-sound F (F .literals) k ls places m .1), ok .total)
+
+      -- each fits five bytes
+      pub gathered-fitting : Fitting (take n x)
+      gathered-fitting = rw front (fitting-sorted (map key (marksFrom 1 p (setOf ls))) (fitting-keys (marksFrom 1 p (setOf ls)) (narrow-marks (setOf ls))))
+
+      -- with the set's literals they are the extension's record
+      pub gathered-record : joined k (length ls) (take n x) n ≡ encodedSet (extensionList p ls)
+      unfolding joined setHeader encodedSet extensionList
+      gathered-record =
+          let ms = sorted (marksFrom 1 p (setOf ls)) in
+          let total : length ls + n ≡ length (ls ++ ms) = omega (arith, gathered-count, length-append ls ms) in
+          let literals = ap₂ _++_ literals-lie (ap keyBytes front ∙ keyBytes-sorted (marksFrom 1 p (setOf ls)) (narrow-marks (setOf ls))) ∙ sym (encoded-literals-append ls ms) in
+          append-assoc (setHeader (length ls + n)) (take (5 * length ls) (drop 4 k)) (keyBytes (take n x))
+          ∙ ap₂ (λ (c : ℕ) (y : List ℕ). setHeader c ++ y) total literals
+
+      -- which is as long as is counted
+      pub gathered-length : length (encodedSet (extensionList p ls)) ≡ 4 + 5 * (length ls + n)
+      unfolding extensionList
+      gathered-length =
+          let ms = sorted (marksFrom 1 p (setOf ls)) in
+          omega (arith, length-encoded-set (ls ++ ms), gathered-count, length-append ls ms)

@@ -1,0 +1,53 @@
+-- The extension of a set of one form is a set of another that covers it: what is written can be read there.
+-- In order: the number of literals; the law for two forms.
+-- Assumes nothing.
+use Prim.Native.Nat.{_+_, _≤_}
+use native.Mathlib.Omega.{arith}
+use native.Mathlib.Nat.{mul-le-mul-right}
+use mathlib.Core.Path.{ap}
+use mathlib.Core.List.{List}
+use lib.Dec.{T, leb}
+use lib.ListN.{length, length-append}
+use Rattle.literal.specs.declared.Limits.{Limits}
+use Rattle.literal.specs.declared.Literal.{Literal}
+use Rattle.literal.specs.Literal.{takes}
+use Rattle.semantics.specs.Set.{LiteralSet, setOf}
+use Rattle.semantics.specs.Rule.{head, Program}
+use Rattle.semantics.specs.Form.{keepsRule, keepsRules}
+use Rattle.semantics.proofs.Laws.Tests.{all-intro, all-mem, along}
+use Rattle.semantics.proofs.Laws.Set.{set-of-mem, mem-set-of}
+use Rattle.semantics.proofs.Laws.Form.{keeps-count, keeps-each, takes-source, Covers, extension-within}
+use Rattle.litset.specs.Layout.{keepsSet}
+use Rattle.litset.proofs.Laws.Reading.{keeps-set, keeps-set-ascending, keeps-set-taken, keeps-set-most}
+use Rattle.extend.specs.Extend.{marksFrom, sorted, extensionList}
+use Rattle.extend.specs.Marks.{most, Extendable}
+use Rattle.extend.proofs.Laws.Count.{length-program, length-sorted}
+use Rattle.extend.proofs.Laws.Gathered.{few-heads}
+use Rattle.extend.proofs.Laws.Extend.{extension-list, extension-ascending-form}
+
+module _ (F : Limits) (ok : Extendable F) (p : Program) (k : T (keepsRules F p)) where
+  -- the marks are no more than the limits leave room for
+  length-extension : (ls : List Literal) → length (extensionList p ls) ≤ length ls + most
+  unfolding extensionList
+  length-extension ls =
+      let ms = marksFrom 1 p (setOf ls) in
+      let few = all-intro (λ r. leb (length (head r)) (F .heads)) p (λ r m. few-heads F r (all-mem (keepsRule F) (keeps-each F p k) m)) in
+      omega (
+        arith,
+        length-append ls (sorted ms),
+        length-sorted ms,
+        length-program (setOf ls) (F .heads) (ok .some) 1 p few,
+        mul-le-mul-right (F .heads) (keeps-count F p k),
+        ok .marks,
+      )
+
+  -- the list is a set within the limits of a form that covers F
+  pub extension-keeps : (G : Limits) → Covers F G → F .kinds ≤ 3 → F .literals + most ≤ G .literals → (ls : List Literal) → T (keepsSet F (F .literals) ls) → T (keepsSet G (G .literals) (extensionList p ls))
+  extension-keeps G covers kinds room ls h =
+      let taken = keeps-set-taken F (F .literals) ls h in
+      let within = extension-within F G covers p k (setOf ls) (λ l y. takes-source F kinds l (all-mem (takes F) taken (mem-set-of l ls y))) (λ l y. all-mem (takes F) taken (mem-set-of l ls y)) in
+      let size = length-extension ls in
+      let count = keeps-set-most F (F .literals) ls h in
+      keeps-set G (G .literals) (extensionList p ls) (extension-ascending-form F ok kinds p ls taken (keeps-set-ascending F (F .literals) ls h))
+      (all-intro (takes G) (extensionList p ls) (λ l m. within l (along (ap (λ (u : LiteralSet). u l) (extension-list F ok p k ls)) (set-of-mem m))))
+      (omega (arith, size, count)) (omega (arith, size, count, ok .total))

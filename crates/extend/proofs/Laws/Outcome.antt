@@ -1,0 +1,135 @@
+-- Laws of extending: the outcome, from what reading the program and the set gives and the room that there is.
+-- In order: the extension's bytes; a refusal of either; what was read of both; 9, and the record; the form
+-- of sources.
+-- Assumes nothing.
+use Prim.Native.Nat.{ℕ, _+_, _*_, _≤_, _<_}
+use native.Mathlib.Omega.{arith}
+use mathlib.Core.Path.{_≡_, sym, _∙_, ap, subst}
+use mathlib.Core.List.{List, map}
+use lib.ListN.{length, take}
+use Rattle.buffer.specs.Bytes.{Bytes}
+use Rattle.buffer.specs.Write.{write}
+use Rattle.literal.specs.declared.Limits.{Limits}
+use Rattle.literal.specs.declared.Literal.{Literal}
+use Rattle.literal.specs.Limits.{source}
+use Rattle.literal.specs.Order.{key}
+use Rattle.semantics.specs.Rule.{Program}
+use Rattle.record.specs.declared.Reason.the-variants.{OutputShort}
+use Rattle.record.specs.declared.Refusal.{Refusal}
+use Rattle.record.specs.declared.Reading.{Reading}
+use Rattle.record.specs.declared.Written.{Written}
+use Rattle.record.specs.declared.Written.the-variants.{Length, Refused}
+use Rattle.record.specs.Refusal.{refusal}
+use Rattle.record.specs.Result.{Result, accepted, refused, andThen}
+use Rattle.record.specs.Reading.{parsed, reading}
+use Rattle.record.specs.Meets.{Meets}
+use Rattle.record.proofs.Laws.Delivered.{meets-refused, meets-short, meets-written}
+use Rattle.keys.specs.Keys.{sortedKeys, Sorted}
+use Rattle.keys.specs.Bytes.{Fitting}
+use Rattle.litset.specs.declared.SetReading.{SetReading}
+use Rattle.litset.specs.Layout.{encodedSet}
+use Rattle.litset.specs.Reading.{parsedSet, setReading}
+use Rattle.litset.specs.Keys.{Ascends, keySet}
+use Rattle.litset.proofs.Laws.Keys.{set-long, set-ascends}
+use Rattle.extend.specs.Extend.{marksFrom, extensionList, extensionBytes, extended}
+use Rattle.extend.specs.Marks.{most, Extendable, Marking, Extending, joined}
+use Rattle.extend.proofs.Laws.Refused.{read-rules, read-refused, read-literals, set-refused}
+use Rattle.extend.proofs.Laws.Gathered.{marking, marking-program, gathered-few, gathered-fitting, gathered-record, gathered-length}
+
+module _ (F : Limits) (s k : List ℕ) where
+  -- the extension's bytes, where the program is read
+  of-set : Program → Result (List Literal) → Result (List ℕ)
+  of-set p q = andThen q (λ ls. accepted (encodedSet (extensionList p ls)))
+
+  of-program : Result Program → Result (List ℕ)
+  of-program q = andThen q (λ p. of-set p (parsedSet F (F .literals) k))
+
+  bytes-refused : (x : Refusal) → parsed F s ≡ refused x → extensionBytes F s k ≡ refused x
+  unfolding extensionBytes andThen of-program of-set
+  bytes-refused x e = ap of-program e
+
+  bytes-set : (p : Program) (q : Result (List Literal)) → parsed F s ≡ accepted p → parsedSet F (F .literals) k ≡ q → extensionBytes F s k ≡ of-set p q
+  unfolding extensionBytes andThen of-program of-set
+  bytes-set p q e m = ap of-program e ∙ ap (of-set p) m
+
+  bytes-set-refused : (p : Program) (x : Refusal) → parsed F s ≡ accepted p → parsedSet F (F .literals) k ≡ refused x → extensionBytes F s k ≡ refused x
+  unfolding andThen of-set
+  bytes-set-refused p x e m = bytes-set p (refused x) e m
+
+  bytes-accepted : (p : Program) (ls : List Literal) → parsed F s ≡ accepted p → parsedSet F (F .literals) k ≡ accepted ls → extensionBytes F s k ≡ accepted (encodedSet (extensionList p ls))
+  unfolding andThen of-set
+  bytes-accepted p ls e m = bytes-set p (accepted ls) e m
+
+  module _ (out : List ℕ) where
+    -- a refusal of the program is the answer
+    pub program-refused : (r : Written) (x : Refusal) → r ≡ Refused x → reading F s ≡ Reading.Refused x → Meets (extended F s k out) r out
+    unfolding extended reading
+    program-refused r x e f = rw e (meets-refused (extensionBytes F s k) out x (bytes-refused x (read-refused (parsed F s) x f)))
+
+    -- a refusal of the set, where the program is read
+    pub member-refused : (r : Written) (n : ℕ) (x : Refusal) → reading F s ≡ Reading.Rules n → r ≡ Refused x → setReading F (F .literals) k ≡ SetReading.Refused x → Meets (extended F s k out) r out
+    unfolding extended reading setReading
+    member-refused r n x a e f =
+        let w = read-rules (parsed F s) n a in
+        rw e (meets-refused (extensionBytes F s k) out x (bytes-set-refused (w .0) x (w .1) (set-refused (parsedSet F (F .literals) k) x f)))
+
+  -- both are read
+  pub both-read : (n c : ℕ) → reading F s ≡ Reading.Rules n → setReading F (F .literals) k ≡ SetReading.Literals c → Extending F s k c
+  unfolding reading setReading
+  both-read n c a e =
+      let w = read-rules (parsed F s) n a in
+      let v = read-literals (parsedSet F (F .literals) k) c e in
+      record { program = w .0; holds = w .1; literals = v .0; members = v .1; counted = v .2 }
+
+  module _ (ok : Extendable F) (count : ℕ) (w : Extending F s k count) (bs : Bytes s) (bk : Bytes k) where
+    -- its marks can be collected, and the set searched
+    pub extending-marking : Marking s most
+    extending-marking = marking F ok s (w .program) (w .holds) bs
+
+    pub extending-long : 4 + 5 * count ≤ length k
+    extending-long = subst (λ (c : ℕ). 4 + 5 * c ≤ length k) (sym (w .counted)) (set-long F (F .literals) k (w .literals) bk (w .members))
+
+    pub extending-ascends : Ascends k count
+    extending-ascends = subst (λ (c : ℕ). Ascends k c) (sym (w .counted)) (set-ascends F (F .literals) k (w .literals) bk (w .members))
+
+    module _ (d x : List ℕ) (n : ℕ) (room : length d ≡ most) (g : (v : Marking s most) → Sorted d x n (sortedKeys (map key (marksFrom 1 (v .program) (keySet k count))))) where
+      sorted-marks : Sorted d x n (sortedKeys (map key (marksFrom 1 (w .program) (keySet k (length (w .literals))))))
+      unfolding extending-marking
+      sorted-marks =
+          subst (λ (c : ℕ). Sorted d x n (sortedKeys (map key (marksFrom 1 (w .program) (keySet k c))))) (w .counted)
+          (subst (λ (p : Program). Sorted d x n (sortedKeys (map key (marksFrom 1 p (keySet k count))))) (marking-program F ok s (w .program) (w .holds) bs) (g extending-marking))
+
+      -- what is written can be
+      pub extending-few : count + n < 65536
+      extending-few = subst (λ (c : ℕ). c + n < 65536) (sym (w .counted)) (gathered-few F ok s (w .program) (w .holds) bs k (w .literals) (w .members) bk d x n room sorted-marks)
+
+      pub extending-fitting : Fitting (take n x)
+      extending-fitting = gathered-fitting F ok s (w .program) (w .holds) bs k (w .literals) (w .members) bk d x n room sorted-marks
+
+      -- the record's length
+      size : length (encodedSet (extensionList (w .program) (w .literals))) ≡ 4 + 5 * (count + n)
+      size =
+          gathered-length F ok s (w .program) (w .holds) bs k (w .literals) (w .members) bk d x n room sorted-marks
+          ∙ ap (λ (c : ℕ). 4 + 5 * (c + n)) (sym (w .counted))
+
+      -- 9 for a shorter buffer
+      pub extending-short : (out : List ℕ) → length out < 4 + 5 * (count + n) → Meets (extended F s k out) (Refused (refusal OutputShort 0)) out
+      unfolding extended
+      extending-short out h = meets-short (extensionBytes F s k) out (encodedSet (extensionList (w .program) (w .literals))) (bytes-accepted (w .program) (w .literals) (w .holds) (w .members)) (omega (arith, size))
+
+      -- the record, where there is room
+      pub extending-written : (out e : List ℕ) → 4 + 5 * (count + n) ≤ length out → e ≡ write out 0 (joined k count (take n x) n) → Meets (extended F s k out) (Length (4 + 5 * (count + n))) e
+      unfolding extended
+      extending-written out e h done =
+          let bytes = ap (λ (c : ℕ). joined k c (take n x) n) (w .counted) ∙ gathered-record F ok s (w .program) (w .holds) bs k (w .literals) (w .members) bk d x n room sorted-marks in
+          meets-written (extensionBytes F s k) out (encodedSet (extensionList (w .program) (w .literals))) (bytes-accepted (w .program) (w .literals) (w .holds) (w .members)) (omega (arith, size))
+          (4 + 5 * (count + n)) e (sym size) (done ∙ ap (write out 0) bytes)
+
+-- the same limits have the same outcome
+pub meets-same : (F G : Limits) (s k out : List ℕ) {r : Written} {e : List ℕ} → F ≡ G → Meets (extended F s k out) r e → Meets (extended G s k out) r e
+meets-same F G s k out {r} {e} same m = subst (λ (H : Limits). Meets (extended H s k out) r e) same m
+
+-- an extension is made in the form of sources
+pub extendable-source : Extendable source
+unfolding source
+extendable-source = record { some = omega arith; marks = omega arith; rules = omega arith; atoms = omega arith; tags = omega arith; total = omega arith }

@@ -1,0 +1,62 @@
+-- Keys put into a slice behind those that stand there, and what the limits of a form must be for its marks to fit.
+-- In order: keys that a slice gained; limits for which an extension is made; a program whose marks are collected; a program
+-- and a set that were read; a set's literals with marks behind them.
+-- Assumes nothing.
+use Prim.Native.Nat.{ℕ, _+_, _*_, _≤_, _<_}
+use mathlib.Core.Path.{_≡_}
+use mathlib.Core.List.{List, _++_}
+use lib.Dec.{T, leb}
+use lib.ListN.{length, take, drop}
+use Rattle.literal.specs.declared.Limits.{Limits}
+use Rattle.literal.specs.declared.Literal.{Literal}
+use Rattle.semantics.specs.Set.{all}
+use Rattle.semantics.specs.Rule.{head, Program}
+use Rattle.record.specs.Result.{accepted}
+use Rattle.record.specs.Layout.{encodedProgram}
+use Rattle.record.specs.Reading.{parsed}
+use Rattle.keys.specs.Bytes.{keyBytes}
+use Rattle.litset.specs.Header.{setHeader}
+use Rattle.litset.specs.Reading.{parsedSet}
+
+-- a slice d became e, as long: behind its first n keys it gained r, which are ks. Behind those stands anything
+pub record Gained (d e : List ℕ) (n r : ℕ) (ks : List ℕ) : Type 0 where
+  pub count : r ≡ length ks
+  pub front : take (n + r) e ≡ take n d ++ ks
+  pub same : length e ≡ length d
+
+-- the marks that a program's rules may add, no more than a rule has options
+abbrev pub most : ℕ
+most = 4096
+
+-- limits for which an extension is made: each field of a literal fits two bytes, the marks are no more than `most`, and two
+-- bytes count the literals with the marks
+pub record Extendable (F : Limits) : Type 0 where
+  pub some : 1 ≤ F .heads
+  pub marks : F .rules * F .heads ≤ most
+  pub rules : F .rules < 65535
+  pub atoms : F .atoms < 65536
+  pub tags : F .tags < 65536
+  pub total : F .literals + most < 65536
+
+-- s holds a program, of fewer rules than two bytes count, none of which has more than `heads` head literals; and `room` keys
+-- are enough for so many marks of each
+pub record Marking (s : List ℕ) (room : ℕ) : Type 0 where
+  pub program : Program
+  pub bytes : s ≡ encodedProgram program
+  pub heads : ℕ
+  pub some : 1 ≤ heads
+  pub few : T (all (λ r. leb (length (head r)) heads) program)
+  pub short : length program < 65535
+  pub fits : length program * heads ≤ room
+
+-- s holds a program and k a set of n literals, in form F
+pub record Extending (F : Limits) (s k : List ℕ) (n : ℕ) : Type 0 where
+  pub program : Program
+  pub holds : parsed F s ≡ accepted program
+  pub literals : List Literal
+  pub members : parsedSet F (F .literals) k ≡ accepted literals
+  pub counted : n ≡ length literals
+
+-- the A: record of the first literals of the set in k, and of n marks behind them, given as keys
+unfoldable pub joined : List ℕ → ℕ → List ℕ → ℕ → List ℕ
+joined k count ks n = (setHeader (count + n) ++ take (5 * count) (drop 4 k)) ++ keyBytes ks

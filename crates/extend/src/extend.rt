@@ -1,0 +1,106 @@
+// The extension of a source set: the program and the set are read, the marks gathered and sorted, and the record written.
+
+use crate::marks::collect_marks;
+use emit::copy::copy;
+use keys::sort::sort_keys;
+use keys::write::write_keys;
+use literal::Limits;
+use literal::form::Source;
+use litset::SetReading;
+use litset::answer::refused_program;
+use litset::answer::refused_set;
+use litset::header::write_set_header;
+use litset::read::read_set;
+use record::Reading;
+use record::Reason;
+use record::Refusal;
+use record::Written;
+use record::read::read;
+ghost use mathlib.Core.Path.{_≡_};
+ghost use mathlib.Core.List.{map};
+ghost use Prim.Native.Nat.{_+_, _*_, _≤_, _<_};
+ghost use lib.ListN.{length, take};
+ghost use Rattle.buffer.specs.Write.{write};
+ghost use Rattle.literal.specs.Order.{key};
+ghost use Rattle.literal.specs.Limits.{source};
+ghost use Rattle.record.specs.Meets.{Meets};
+ghost use Rattle.keys.specs.Keys.{sortedKeys, Sorted};
+ghost use Rattle.keys.specs.Bytes.{Fitting};
+ghost use Rattle.litset.specs.Keys.{Ascends, keySet};
+ghost use Rattle.extend.specs.Extend.{marksFrom, extended};
+ghost use Rattle.extend.specs.Marks.{most, Marking, Extendable, Extending, joined};
+
+// The marks that a source's rules may add: no more than a rule has options.
+const MOST: usize = 4096;
+
+// The marks of a program's rules, ascending and each once, at the front of `keys`; how many there are.
+fn gather_marks(s: &[u8], set: &[u8], count: usize, keys: &mut [u64]) -> usize
+    requires { ⌜ 4 + 5 * count ≤ length (now set) ⌝ }
+    requires { ⌜ Ascends (now set) count ⌝ }
+    requires { ⌜ Marking (now s) (length (now keys)) ⌝ }
+    requires { ⌜ length (now keys) ≤ most ⌝ }
+    ensures { λ r. ⌜ ((w : Marking (now (s .entry)) (length (now (keys .entry)))) → Sorted (now (keys .entry)) (now (keys .exit)) r (sortedKeys (map key (marksFrom 1 (w .program) (keySet (now (set .entry)) count))))) ⌝ }
+{
+    let mut spare = [0u64; MOST];
+    let n = collect_marks(s, set, count, keys);
+    sort_keys(&mut keys[..n], &mut spare)
+}
+
+// The record of a set's literals with marks behind them, written to the start of `out`.
+fn write_joined(set: &[u8], count: usize, keys: &[u64], n: usize, out: &mut [u8])
+    requires { ⌜ 4 + 5 * count ≤ length (now set) ⌝ }
+    requires { ⌜ n ≤ length (now keys) ⌝ }
+    requires { ⌜ count + n < 65536 ⌝ }
+    requires { ⌜ 4 + 5 * (count + n) ≤ length (now out) ⌝ }
+    requires { ⌜ Fitting (take n (now keys)) ⌝ }
+    ensures { λ _. ⌜ now (out .exit) ≡ write (now (out .entry)) 0 (joined (now (set .entry)) count (take n (now (keys .entry))) n) ⌝ }
+{
+    let total = count + n;
+    let size = 5 * count;
+    write_set_header(total as u16, out);
+    copy(set, 4, size, out, 4);
+    write_keys(keys, n, out, 4 + size);
+}
+
+// The extension of the set that `set` holds, for the program that `s` holds.
+fn write_extension(lim: Limits, s: &[u8], set: &[u8], count: usize, out: &mut [u8]) -> Written
+    requires { ⌜ Extendable lim ⌝ }
+    requires { ⌜ Extending lim (now s) (now set) count ⌝ }
+    ensures { λ r. ⌜ Meets (extended lim (now (s .entry)) (now (set .entry)) (now (out .entry))) r (now (out .exit)) ⌝ }
+{
+    let mut keys = [0u64; MOST];
+    let n = gather_marks(s, set, count, &mut keys);
+    let size = 4 + 5 * (count + n);
+    if out.len() < size {
+        return Written::Refused(Refusal {
+            reason: Reason::OutputShort,
+            place: 0,
+        });
+    }
+    write_joined(set, count, &keys, n, out);
+    Written::Length(size)
+}
+
+// The extension of the set in `k`, for the program in `s`, both in a form, written to the start of `out`.
+pub fn extend(lim: Limits, s: &[u8], k: &[u8], out: &mut [u8]) -> Written
+    requires { ⌜ Extendable lim ⌝ }
+    ensures { λ r. ⌜ Meets (extended lim (now (s .entry)) (now (k .entry)) (now (out .entry))) r (now (out .exit)) ⌝ }
+{
+    let a = read(lim, s);
+    let Reading::Rules(_) = a else {
+        return refused_program(a);
+    };
+    let most = lim.literals;
+    let b = read_set(lim, most, k);
+    let SetReading::Literals(count) = b else {
+        return refused_set(b);
+    };
+    write_extension(lim, s, k, count, out)
+}
+
+// The extension of a source set.
+pub fn extend_source(s: &[u8], k: &[u8], out: &mut [u8]) -> Written
+    ensures { λ r. ⌜ Meets (extended source (now (s .entry)) (now (k .entry)) (now (out .entry))) r (now (out .exit)) ⌝ }
+{
+    extend(Source::limits(), s, k, out)
+}

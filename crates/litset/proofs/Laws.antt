@@ -1,0 +1,13 @@
+pub mod Shape
+pub mod Members
+pub mod Order
+pub mod Above
+pub mod Answer
+pub mod Answered
+pub mod Reading
+pub mod Weight
+pub mod Search
+pub mod Keys
+pub mod Member
+pub mod Header
+pub mod Places

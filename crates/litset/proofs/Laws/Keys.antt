@@ -1,0 +1,127 @@
+-- A set that was read, by its keys: what the search needs, and that it finds a literal exactly if the set holds it.
+-- In order: the keys of encoded literals; fields that fit; the search's needs; membership. Assumes nothing.
+use Prim.Native.Nat.{ℕ, zero, suc, _+_, _*_, _/_, _≤_, _<_}
+use native.Mathlib.Omega.{arith}
+use mathlib.Core.Path.{_≡_, refl, sym, _∙_, ap, ap₂, subst}
+use mathlib.Core.Bool.{Bool, _&&_, _||_}
+use mathlib.Core.List.{List, [], _∷_, _++_, append-assoc, append-nil, List·Memᴰ, List·Memᴰ·head, List·Memᴰ·tail}
+use lib.Dec.{T, ltb, eqb, ltb→lt, eqb→eq, eqb-refl}
+use lib.ListN.{length, drop}
+use lib.Seq.{drop-drop, drop-at}
+use Rattle.buffer.specs.Bytes.{Bytes}
+use Rattle.buffer.proofs.Laws.Bytes.{bytes-drop}
+use Rattle.literal.specs.declared.Limits.{Limits}
+use Rattle.literal.specs.declared.Literal.{Literal}
+use Rattle.literal.specs.Literal.{tagField, atomField, encoded}
+use Rattle.literal.specs.Order.{key, keyAt}
+use Rattle.literal.proofs.Laws.Literal.{length-encoded}
+use Rattle.literal.proofs.Laws.Order.{keyAt-encoded, key-injective}
+use Rattle.semantics.specs.Set.{any, sameLiteral, setOf}
+use Rattle.semantics.proofs.Laws.Tests.{first, second, along, same-test, any-agree}
+use Rattle.semantics.proofs.Laws.Set.{same-literal-eq, same-literal-refl}
+use Rattle.record.specs.Result.{accepted}
+use Rattle.record.specs.Layout.{encodedLiterals}
+use Rattle.litset.specs.Layout.{encodedSet}
+use Rattle.litset.specs.Reading.{parsedSet}
+use Rattle.litset.specs.Keys.{memberKey, Ascends, hasKeyFrom, hasKey}
+use Rattle.litset.proofs.Laws.Above.{above, ascending-above}
+use Rattle.litset.proofs.Laws.Reading.{keeps-set-ascending, keeps-set-taken, parsed-set-sound, length-parsed-set}
+use Rattle.litset.proofs.Laws.Search.{number-first, number-next}
+
+-- the literals lie in s from `at` on
+module _ (s : List ℕ) where
+  pub key-here : (at : ℕ) (l : Literal) (ls : List Literal) → drop at s ≡ encodedLiterals (l ∷ ls) → keyAt (drop at s) ≡ key l
+  unfolding encodedLiterals
+  key-here at l ls e = ap keyAt e ∙ keyAt-encoded l (encodedLiterals ls)
+
+  pub behind : (at : ℕ) (l : Literal) (ls : List Literal) → drop at s ≡ encodedLiterals (l ∷ ls) → drop (at + 5) s ≡ encodedLiterals ls
+  unfolding encodedLiterals
+  behind at l ls e = sym (drop-drop 5 at s) ∙ ap (drop 5) e ∙ drop-at (encoded l) (encodedLiterals ls) 5 (length-encoded l)
+
+  -- literal number j, and the one behind it
+  key-first : (at : ℕ) (l : Literal) (ls : List Literal) → drop at s ≡ encodedLiterals (l ∷ ls) → keyAt (drop (at + 5 * 0) s) ≡ key l
+  key-first at l ls e = ap (λ (i : ℕ). keyAt (drop i s)) (sym (number-first at)) ∙ key-here at l ls e
+
+  key-next : (at j : ℕ) → keyAt (drop (at + 5 + 5 * j) s) ≡ keyAt (drop (at + 5 * suc j) s)
+  key-next at j = ap (λ (i : ℕ). keyAt (drop i s)) (number-next at j)
+
+  -- keys above k, one behind the other
+  keys-above : (ls : List Literal) (at k : ℕ) → T (above k ls) → drop at s ≡ encodedLiterals ls → (j : ℕ) → j < length ls → k < keyAt (drop (at + 5 * j) s)
+  keys-above [] at k t e j h = absurd (omega arith)
+  keys-above (l ∷ ls) at k t e zero h =
+      omega (arith, key-first at l ls e, ltb→lt k (key l) (first (ltb k (key l)) (above (key l) ls) t))
+  keys-above (l ∷ ls) at k t e (suc j) h =
+      omega (
+        arith,
+        key-next at j,
+        ltb→lt k (key l) (first (ltb k (key l)) (above (key l) ls) t),
+        keys-above ls (at + 5) (key l) (second (ltb k (key l)) (above (key l) ls) t) (behind at l ls e) j (omega arith),
+      )
+
+  keys-ascend : (ls : List Literal) (at k : ℕ) → T (above k ls) → drop at s ≡ encodedLiterals ls → (i j : ℕ) → i < j → j < length ls
+      → keyAt (drop (at + 5 * i) s) < keyAt (drop (at + 5 * j) s)
+  keys-ascend [] at k t e i j h m = absurd (omega arith)
+  keys-ascend (l ∷ ls) at k t e i zero h m = absurd (omega arith)
+  keys-ascend (l ∷ ls) at k t e zero (suc j) h m =
+      omega (
+        arith,
+        key-first at l ls e,
+        key-next at j,
+        keys-above ls (at + 5) (key l) (second (ltb k (key l)) (above (key l) ls) t) (behind at l ls e) j (omega arith),
+      )
+  keys-ascend (l ∷ ls) at k t e (suc i) (suc j) h m =
+      omega (
+        arith,
+        key-next at i,
+        key-next at j,
+        keys-ascend ls (at + 5) (key l) (second (ltb k (key l)) (above (key l) ls) t) (behind at l ls e) i j (omega arith) (omega arith),
+      )
+
+  -- a key among those of the literals
+  has-key-any : (k : ℕ) (ls : List Literal) (at : ℕ) → drop at s ≡ encodedLiterals ls → hasKeyFrom s at (length ls) k ≡ any (λ m. eqb (key m) k) ls
+  unfolding hasKeyFrom
+  has-key-any k [] at e = refl
+  has-key-any k (l ∷ ls) at e =
+      ap₂ (λ (x y : Bool). x || y) (ap (λ (i : ℕ). eqb i k) (key-here at l ls e)) (has-key-any k ls (at + 5) (behind at l ls e))
+
+-- the fields of a literal whose bytes are bytes fit two bytes each
+fits-first : (l : Literal) (ls : List Literal) → Bytes (encodedLiterals (l ∷ ls)) → (tagField l < 65536) × (atomField l < 65536)
+unfolding encodedLiterals encoded
+fits-first l ls h = (omega (arith, h 1), omega (arith, h 3))
+
+bytes-behind : (l : Literal) (ls : List Literal) → Bytes (encodedLiterals (l ∷ ls)) → Bytes (encodedLiterals ls)
+unfolding encodedLiterals encoded
+bytes-behind l ls h i = h (suc (suc (suc (suc (suc i)))))
+
+fields-fit : {m : Literal} (ls : List Literal) → Bytes (encodedLiterals ls) → List·Memᴰ m ls → (tagField m < 65536) × (atomField m < 65536)
+fields-fit ls h (List·Memᴰ·head {x} {xs} e) = subst (λ n. (tagField n < 65536) × (atomField n < 65536)) (sym e) (fits-first x xs h)
+fields-fit ls h (List·Memᴰ·tail {x} {xs} m) = fields-fit xs (bytes-behind x xs h) m
+
+-- two literals have the same key exactly if they are the same
+same-key : (l m : Literal) → tagField l < 65536 → atomField l < 65536 → tagField m < 65536 → atomField m < 65536 → eqb (key m) (key l) ≡ sameLiteral l m
+same-key l m tl al tm am =
+    same-test (eqb (key m) (key l)) (sameLiteral l m)
+    (λ t. subst (λ x. T (sameLiteral l x)) (key-injective l m tl al tm am (sym (eqb→eq (key m) (key l) t))) (same-literal-refl l))
+    (λ t. subst (λ x. T (eqb (key x) (key l))) (same-literal-eq l m t) (eqb-refl (key l)))
+
+module _ (F : Limits) (most : ℕ) (s : List ℕ) (ls : List Literal) (bytes : Bytes s) (e : parsedSet F most s ≡ accepted ls) where
+  -- the literals of the set lie behind its count
+  pub literals-lie : drop 4 s ≡ encodedLiterals ls
+  unfolding encodedSet
+  literals-lie = ap (drop 4) (parsed-set-sound F most s ls bytes e .0)
+
+  -- what the search asks of the set
+  pub set-long : 4 + 5 * length ls ≤ length s
+  set-long = omega (arith, length-parsed-set F most s ls bytes e)
+
+  pub set-ascends : Ascends s (length ls)
+  set-ascends =
+      let k = parsed-set-sound F most s ls bytes e .1 in
+      keys-ascend s ls 4 0 (along (ascending-above F ls (keeps-set-taken F most ls k)) (keeps-set-ascending F most ls k)) literals-lie
+
+  -- a literal's key is found exactly if the set holds the literal
+  pub has-key-member : (l : Literal) → tagField l < 65536 → atomField l < 65536 → hasKey s (length ls) (key l) ≡ setOf ls l
+  unfolding hasKey
+  has-key-member l tl al =
+      has-key-any s (key l) ls 4 literals-lie
+      ∙ any-agree ls (λ m mem. let fit = fields-fit ls (subst Bytes literals-lie (bytes-drop 4 s bytes)) mem in same-key l m tl al (fit .0) (fit .1))

@@ -1,0 +1,36 @@
+-- A set's literals by their keys, in the set's slice.
+-- In order: the key of literal number i; ascending keys; whether a literal has a key; the set of keys; a run of literals.
+-- Assumes nothing.
+use Prim.Native.Nat.{ℕ, zero, suc, _+_, _*_, _<_}
+use mathlib.Core.Bool.{Bool, false, _||_}
+use mathlib.Core.List.{List}
+use lib.Dec.{eqb}
+use lib.ListN.{drop}
+use Rattle.literal.specs.Order.{key, keyAt}
+use Rattle.semantics.specs.Set.{LiteralSet}
+
+-- the key of literal number i, from 0
+abbrev pub memberKey : List ℕ → ℕ → ℕ
+memberKey s i = keyAt (drop (4 + 5 * i) s)
+
+-- of n literals each has a key below those behind it
+abbrev pub Ascends : List ℕ → ℕ → Type 0
+Ascends s n = (i j : ℕ) → i < j → j < n → memberKey s i < memberKey s j
+
+-- one of n literals from `at` on has this key
+unfoldable pub hasKeyFrom : List ℕ → ℕ → ℕ → ℕ → Bool
+hasKeyFrom s at zero k = false
+hasKeyFrom s at (suc n) k = eqb (keyAt (drop at s)) k || hasKeyFrom s (at + 5) n k
+
+-- one of a set's n literals has it
+unfoldable pub hasKey : List ℕ → ℕ → ℕ → Bool
+hasKey s n k = hasKeyFrom s 4 n k
+
+-- the literals whose key it has, as a set
+abbrev pub keySet : List ℕ → ℕ → LiteralSet
+keySet s n l = hasKey s n (key l)
+
+-- one of m literals from `at` on, in t, has a key of the set
+unfoldable pub anyKey : List ℕ → ℕ → ℕ → List ℕ → ℕ → Bool
+anyKey s n zero t at = false
+anyKey s n (suc m) t at = hasKey s n (keyAt (drop at t)) || anyKey s n m t (at + 5)

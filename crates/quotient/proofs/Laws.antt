@@ -1,0 +1,9 @@
+pub mod Options
+pub mod Remainder
+pub mod Meaning
+pub mod Program
+pub mod Pass
+pub mod Short
+pub mod Agree
+pub mod Quotient
+pub mod Plain
