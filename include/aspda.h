@@ -3,7 +3,7 @@
  * Every function answers one 64-bit word. A refusal is 2^63 + number * 2^32 + place, with document 01's number and the
  * byte offset of its place; all else is below 2^63. A pointer comes with its length and is never null; the slices of one
  * call do not overlap. The functions read and write nothing but the slices that they are lent and their stack (at most
- * 64 KiB of arrays, in aspda_extend), keep no state and take no other memory.
+ * 200 KiB of arrays, in the checks), keep no state and take no other memory.
  */
 #ifndef ASPDA_H
 #define ASPDA_H
@@ -44,6 +44,26 @@ uint64_t aspda_extend(const uint8_t *p, size_t n, const uint8_t *s, size_t k, ui
 /* The restriction of the plain set: the set without its derivation and rule-defeated marks, as an A: record. It is at
  * most k bytes long, and may hold more literals than a source's set. */
 uint64_t aspda_restrict(const uint8_t *s, size_t k, uint8_t *out, size_t m);
+
+/* Is the set an answer set of the program in p[0 .. n)? It holds at most 64 literals of the program's form, and out is
+ * at least as long as the set, whatever the verdict. The answer is the verdict * 2^32 + its value:
+ *
+ *     ASPDA_YES       it is; the value is 0
+ *     ASPDA_CLASH     the position in the set, from 1, of the first literal whose opposite is in the set
+ *     ASPDA_BROKEN    the number, from 1, of the first rule whose remainder in the quotient does not hold
+ *     ASPDA_SMALLER   the number of bytes written to out: an A: record of the first proper subset that is a model of
+ *                     the quotient, subsets being compared literal by literal, absent before present
+ *
+ * Only the last verdict writes. A refusal leaves out as it was; bytes behind the record are left as they were. */
+uint64_t aspda_check_source(const uint8_t *p, size_t n, const uint8_t *s, size_t k, uint8_t *out, size_t m);
+uint64_t aspda_check_plain(const uint8_t *p, size_t n, const uint8_t *s, size_t k, uint8_t *out, size_t m);
+
+#define ASPDA_YES 0
+#define ASPDA_CLASH 1
+#define ASPDA_BROKEN 2
+#define ASPDA_SMALLER 3
+#define ASPDA_VERDICT(word) ((uint32_t)((word) >> 32))
+#define ASPDA_VERDICT_VALUE(word) ((uint32_t)(word))
 
 /* Where the record of a rule lies, the rules being numbered from 1: start * 2^32 + length. */
 uint64_t aspda_show_source(const uint8_t *p, size_t n, uint32_t rule);

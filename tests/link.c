@@ -34,6 +34,12 @@ int main(void)
     if (aspda_read_plain(out, 28) != 2) return 10;
     refused = aspda_quotient_plain(out, 28, set, sizeof set, out + 28, 0);
     if (ASPDA_REFUSAL_NUMBER(refused) != 9) return 11;
+    /* M9: of the empty program the empty set is an answer set, and {1} is not: {} is smaller. */
+    const uint8_t none[] = {0x45, 0x3A, 0, 0}, empty[] = {0x41, 0x3A, 0, 0}, one[] = {0x41, 0x3A, 0, 1, 0, 0, 0, 0, 1};
+    if (aspda_check_source(none, sizeof none, empty, sizeof empty, out, sizeof out) != ASPDA_YES) return 12;
+    written = aspda_check_plain(none, sizeof none, one, sizeof one, out, sizeof out);
+    if (ASPDA_VERDICT(written) != ASPDA_SMALLER || ASPDA_VERDICT_VALUE(written) != sizeof empty) return 13;
+    if (memcmp(out, empty, sizeof empty) != 0) return 14;
     puts("link.c: linked and answered");
     return 0;
 }

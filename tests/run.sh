@@ -5,7 +5,7 @@
 
 # The operations that the library exports; add an operation when it is exported. Of these: read show
 # translate quotient extend restrict check, and filter for the program target/bin/filter.
-OPS=${OPS:-"read show translate quotient extend restrict filter"}
+OPS=${OPS:-"read show translate quotient extend restrict check filter"}
 
 set -eu
 cd "$(dirname "$0")/.."

@@ -2,9 +2,12 @@
 use Prim.Native.Nat.{ℕ, _*_, _≤_}
 use native.Mathlib.Omega.{arith}
 use native.Mathlib.Nat.{zero-add}
-use mathlib.Core.Path.{_≡_, sym, _∙_, ap}
+use mathlib.Core.Path.{_≡_, refl, sym, _∙_, ap}
 use mathlib.Core.List.{List}
-use lib.Dec.{T, leb, le→leb}
+use mathlib.Core.Bool.{Bool}
+use mathlib.Core.Logic.{_↔_}
+use lib.Dec.{T, leb, ltb, le→leb}
+use borrow.Author.Tests.{le-ltb}
 use lib.ListN.{length, take, drop}
 use Rattle.buffer.specs.Bytes.{Bytes}
 use Rattle.buffer.specs.Write.{write}
@@ -13,7 +16,7 @@ use Rattle.literal.specs.declared.Limits.{Limits}
 use Rattle.literal.specs.declared.Literal.{Literal}
 use Rattle.literal.specs.Literal.{takes}
 use Rattle.literal.specs.Limits.{source, plain}
-use Rattle.semantics.specs.Set.{all}
+use Rattle.semantics.specs.Set.{all, setOf}
 use Rattle.semantics.specs.Rule.{Program}
 use Rattle.semantics.specs.Extension.{sourceKind}
 use Rattle.semantics.specs.Translation.{translation, programLength, translationLength}
@@ -24,8 +27,13 @@ use Rattle.semantics.proofs.Laws.Form.{Covers, takes-source}
 use Rattle.semantics.proofs.Laws.Length.{length-translation, count-translation, thirteenfold}
 use Rattle.semantics.proofs.Laws.Room.{Room, translation-keeps, translation-short}
 use Rattle.semantics.proofs.FormMatch.{form-match}
+use Rattle.semantics.specs.Meaning.{AnswerSet}
+use Rattle.semantics.specs.Verdict.{Finding, clash, broken, smaller, answerSet, finding}
+use Rattle.semantics.proofs.Laws.Verdict.{finding-clash, finding-broken, finding-smaller, finding-answer-set}
+use Rattle.record.specs.declared.Reason.the-variants.{OutputShort}
+use Rattle.record.specs.Refusal.{refusal}
 use Rattle.record.specs.declared.Written.the-variants.{Length}
-use Rattle.record.specs.Result.{Result, accepted, andThen, Outcome, delivered}
+use Rattle.record.specs.Result.{Result, accepted, andThen, refuseIf, Outcome, delivered}
 use Rattle.record.specs.Layout.{encodedProgram, keeps}
 use Rattle.record.specs.Reading.{parsed}
 use Rattle.record.proofs.Laws.Layout.{length-encoded-program}
@@ -42,7 +50,11 @@ use Rattle.extend.proofs.Laws.Extend.{extension-list, extension-ascending-form}
 use Rattle.extend.proofs.Laws.Outcome.{extendable-source}
 use Rattle.extend.proofs.Laws.Added.{restriction-extension}
 use Rattle.extend.proofs.Laws.Restriction.{restriction-set}
-use Rattle.aspda.specs.Claims.{Reading, Quotients, Quotient, Extending, Translates, Translating}
+use Rattle.verdict.specs.declared.Verdict.{Verdict}
+use Rattle.verdict.specs.declared.Verdict.the-variants.{Yes}
+use Rattle.verdict.specs.declared.Check.the-variants.{Found}
+use Rattle.verdict.specs.Check.{found, verdictOf, witness, Checked, checkedOf, checked}
+use Rattle.aspda.specs.Claims.{Reading, Quotients, Quotient, Extending, Checks, Checking, Translates, Translating}
 
 pub reading : Reading
 reading = record { reads-source = reading-iff source; reads-plain = reading-iff plain }
@@ -91,6 +103,48 @@ extending =
       ascends = λ k p ls bytes read. extension-ascending-form source extendable-source source-kinds p ls (set-taken k ls bytes read) (keeps-set-ascending source (source .literals) ls (set-kept k ls bytes read));
       returns = λ k p ls bytes read. restriction-extension p ls (set-source k ls bytes read);
       restricts = restriction-set;
+    }
+
+-- a finding's verdict is yes exactly where it is "answer set"
+verdict-yes : (f : Finding) → verdictOf f ≡ Yes → f ≡ answerSet
+unfolding verdictOf
+verdict-yes (clash k) e = let z : _≡_ {A = ℕ} 0 1 = cc in absurd (omega arith)
+verdict-yes (broken n) e = let z : _≡_ {A = ℕ} 0 1 = cc in absurd (omega arith)
+verdict-yes (smaller s) e = let z : _≡_ {A = ℕ} 0 1 = cc in absurd (omega arith)
+verdict-yes answerSet e = refl
+
+yes-verdict : (f : Finding) → f ≡ answerSet → Found (verdictOf f) ≡ Found Yes
+unfolding verdictOf
+yes-verdict f e = ap (λ (g : Finding). Found (verdictOf g)) e
+
+found-verdict : {v w : Verdict} → Found v ≡ Found w → v ≡ w
+found-verdict e = cc
+
+module _ (F : Limits) (b k : List ℕ) (p : Program) (ls : List Literal) (read : parsed F b ≡ accepted p) (held : parsedSet F (F .checked) k ≡ accepted ls) (out : List ℕ) (fits : length k ≤ length out) where
+  check-finds : checked F b k out ≡ record { answer = Found (verdictOf (finding p ls)); buffer = write out 0 (witness (finding p ls)) }
+  unfolding checked found andThen refuseIf checkedOf
+  check-finds =
+      ap (λ (r : Result Program). checkedOf (andThen r (λ p. andThen (parsedSet F (F .checked) k) (λ ls. refuseIf (ltb (length out) (length k)) (refusal OutputShort 0) (accepted (finding p ls))))) out) read
+      ∙ ap (λ (r : Result (List Literal)). checkedOf (andThen r (λ ls. refuseIf (ltb (length out) (length k)) (refusal OutputShort 0) (accepted (finding p ls)))) out) held
+      ∙ ap (λ (x : Bool). checkedOf (refuseIf x (refusal OutputShort 0) (accepted (finding p ls))) out) (le-ltb (length out) (length k) fits)
+
+  check-yes : (checked F b k out .answer ≡ Found Yes) ↔ AnswerSet p (setOf ls)
+  check-yes = (
+    λ e. finding-answer-set p ls .0 (verdict-yes (finding p ls) (found-verdict (sym (ap (λ (o : Checked). o .answer) check-finds) ∙ e))),
+    λ w. ap (λ (o : Checked). o .answer) check-finds ∙ yes-verdict (finding p ls) (finding-answer-set p ls .1 w),
+  )
+
+checks : (F : Limits) → Checks F
+checks F = record { finds = check-finds F; says-yes = check-yes F }
+
+pub checking : Checking
+checking =
+    record {
+      check-source = checks source;
+      check-plain = checks plain;
+      shows-clash = finding-clash;
+      shows-broken = finding-broken;
+      shows-smaller = finding-smaller;
     }
 
 -- the plain form has room for every translation of a source

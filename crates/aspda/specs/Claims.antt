@@ -1,6 +1,6 @@
 -- What is to be believed of the library, as types in the order of its demands. `proofs/Theorems.antt` proves each.
 -- The functions' contracts say that they answer what the definitions give, so these claims are about the functions.
--- In order: reading; quotients; extension and restriction; translating.
+-- In order: reading; quotients; extension and restriction; the check; translating.
 -- Assumes nothing.
 use Prim.Native.Nat.{ℕ, _*_, _≤_}
 use mathlib.Core.Path.{_≡_}
@@ -18,6 +18,9 @@ use Rattle.semantics.specs.Rule.{Program}
 use Rattle.semantics.specs.Extension.{extension, restriction}
 use Rattle.semantics.specs.Translation.{translation, translationLength, translatedCounts}
 use Rattle.semantics.specs.Match.{FormMatch}
+use Rattle.semantics.specs.Meaning.{AnswerSet}
+use Rattle.semantics.specs.Verdict.{clash, broken, smaller, finding}
+use Rattle.semantics.proofs.Laws.Verdict.{FirstOpposed, BrokenAt, SmallerBy}
 use Rattle.record.specs.declared.Written.the-variants.{Length}
 use Rattle.record.specs.Result.{accepted}
 use Rattle.record.specs.Layout.{encodedProgram, keeps}
@@ -28,6 +31,9 @@ use Rattle.translate.specs.Translate.{translated}
 use Rattle.quotient.specs.Quotient.{quotientProgram, quotiented}
 use Rattle.extend.specs.Extend.{extensionList}
 use Rattle.extend.specs.Restrict.{restrictionList}
+use Rattle.verdict.specs.declared.Verdict.the-variants.{Yes}
+use Rattle.verdict.specs.declared.Check.the-variants.{Found}
+use Rattle.verdict.specs.Check.{verdictOf, witness, checked}
 
 -- demand 1, accepted half: reading in a form accepts exactly the encodings of programs within the form's limits
 abbrev pub Reads : Limits → Type 0
@@ -56,6 +62,24 @@ pub record Extending : Type 0 where
   pub ascends : (k : List ℕ) (p : Program) (ls : List Literal) → Bytes k → parsedSet source (source .literals) k ≡ accepted ls → T (ascending (extensionList p ls))
   pub returns : (k : List ℕ) (p : Program) (ls : List Literal) → Bytes k → parsedSet source (source .literals) k ≡ accepted ls → restrictionList (extensionList p ls) ≡ ls
   pub restricts : (ls : List Literal) → setOf (restrictionList ls) ≡ restriction (setOf ls)
+
+-- demand 2, the check in a form: of a program and a set that are read, with room for the set's record, the answer and the
+-- buffer are those of the finding, and the answer is yes exactly for an answer set
+pub record Checks (F : Limits) : Type 0 where
+  pub finds : (b k : List ℕ) (p : Program) (ls : List Literal) → parsed F b ≡ accepted p → parsedSet F (F .checked) k ≡ accepted ls
+      → (out : List ℕ) → length k ≤ length out
+      → checked F b k out ≡ record { answer = Found (verdictOf (finding p ls)); buffer = write out 0 (witness (finding p ls)) }
+  pub says-yes : (b k : List ℕ) (p : Program) (ls : List Literal) → parsed F b ≡ accepted p → parsedSet F (F .checked) k ≡ accepted ls
+      → (out : List ℕ) → length k ≤ length out → (checked F b k out .answer ≡ Found Yes) ↔ AnswerSet p (setOf ls)
+
+-- each other finding shows what it says: the first literal whose opposite is in the set; the first rule whose remainder does
+-- not hold; the first proper subset that is a model of the quotient
+pub record Checking : Type 0 where
+  pub check-source : Checks source
+  pub check-plain : Checks plain
+  pub shows-clash : (p : Program) (ls : List Literal) (n : ℕ) → (finding p ls ≡ clash n) ↔ FirstOpposed p (setOf ls) 1 ls n
+  pub shows-broken : (p : Program) (ls : List Literal) (n : ℕ) → (finding p ls ≡ broken n) ↔ BrokenAt p ls n
+  pub shows-smaller : (p : Program) (ls s : List Literal) → (finding p ls ≡ smaller s) ↔ SmallerBy p ls s
 
 -- demand 3, for the bytes b of a source that is read as p, and a lent buffer out that is long enough
 pub record Translates (b : List ℕ) (p : Program) (out : List ℕ) : Type 0 where

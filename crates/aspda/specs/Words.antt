@@ -8,6 +8,9 @@ use Rattle.record.specs.declared.Refusal.{Refusal}
 use Rattle.record.specs.declared.Extent.{Extent}
 use Rattle.record.specs.declared.Reading.{Reading}
 use Rattle.record.specs.declared.Written.{Written}
+use Rattle.verdict.specs.declared.Verdict.{Verdict}
+use Rattle.verdict.specs.declared.Check.{Check}
+use Rattle.verdict.specs.Check.{Checked}
 use Rattle.record.specs.declared.Shown.{Shown}
 use Rattle.record.specs.Refusal.{refusalNumber}
 use Rattle.record.specs.Result.{Outcome}
@@ -58,3 +61,30 @@ ShortWritten (Written.Refused x) = ShortPlace x
 abbrev pub ShortShown : Shown → Type 0
 ShortShown (Shown.At e) = ShortExtent e
 ShortShown (Shown.Refused x) = ShortPlace x
+
+-- check: yes, or the verdict's number in the upper half and its value in the lower
+abbrev pub verdictWord : Verdict → ℕ
+verdictWord (Verdict.Clash k) = 4294967296 + k
+verdictWord (Verdict.Broken n) = 8589934592 + n
+verdictWord (Verdict.Smaller n) = 12884901888 + n
+verdictWord Verdict.Yes = 0
+
+abbrev pub checkWord : Check → ℕ
+checkWord (Check.Found v) = verdictWord v
+checkWord (Check.Refused x) = refusalWord x
+
+-- the word r and the lent buffer, as it is at the end, are those of a check
+pub record MeetsVerdict (o : Checked) (r : ℕ) (out : List ℕ) : Type 0 where
+  pub answer : r ≡ checkWord (o .answer)
+  pub buffer : out ≡ o .buffer
+
+-- a verdict whose value the lower half has room for
+abbrev pub ShortVerdict : Verdict → Type 0
+ShortVerdict (Verdict.Clash k) = k < 4294967296
+ShortVerdict (Verdict.Broken n) = n < 4294967296
+ShortVerdict (Verdict.Smaller n) = n < 4294967296
+ShortVerdict Verdict.Yes = Unit
+
+abbrev pub ShortCheck : Check → Type 0
+ShortCheck (Check.Found v) = ShortVerdict v
+ShortCheck (Check.Refused x) = ShortPlace x

@@ -1,5 +1,6 @@
 // The exported functions. A slice is a pointer and a length; include/aspda.h has them in C's words.
 
+use crate::word::check_word;
 use crate::word::reading_word;
 use crate::word::shown_word;
 use crate::word::written_word;
@@ -12,6 +13,8 @@ use record::read::read_source;
 use record::show::find_plain;
 use record::show::find_source;
 use translate::pass::translate_source;
+use verdict::proposed::check_plain;
+use verdict::proposed::check_source;
 ghost use mathlib.Core.Path.{_≡_};
 ghost use Rattle.literal.specs.Limits.{source, plain};
 ghost use Rattle.record.specs.Reading.{reading};
@@ -20,7 +23,8 @@ ghost use Rattle.translate.specs.Translate.{translated};
 ghost use Rattle.quotient.specs.Quotient.{quotiented};
 ghost use Rattle.extend.specs.Extend.{extended};
 ghost use Rattle.extend.specs.Restrict.{restricted};
-ghost use Rattle.aspda.specs.Words.{readingWord, shownWord, MeetsWord};
+ghost use Rattle.verdict.specs.Check.{checked};
+ghost use Rattle.aspda.specs.Words.{readingWord, shownWord, MeetsWord, MeetsVerdict};
 
 // The number of rules of a source, or the refusal.
 #[no_mangle]
@@ -76,6 +80,22 @@ pub extern "C" fn aspda_restrict(k: &[u8], out: &mut [u8]) -> u64
     ensures { λ r. ⌜ MeetsWord (restricted plain (now (k .entry)) (now (out .entry))) r (now (out .exit)) ⌝ }
 {
     written_word(restrict_plain(k, out))
+}
+
+// Whether a set is an answer set of a source: the verdict, or the refusal. A smaller model is written to the start of `out`.
+#[no_mangle]
+pub extern "C" fn aspda_check_source(s: &[u8], k: &[u8], out: &mut [u8]) -> u64
+    ensures { λ r. ⌜ MeetsVerdict (checked source (now (s .entry)) (now (k .entry)) (now (out .entry))) r (now (out .exit)) ⌝ }
+{
+    check_word(check_source(s, k, out))
+}
+
+// Whether a set is an answer set of a plain program, in the same way.
+#[no_mangle]
+pub extern "C" fn aspda_check_plain(s: &[u8], k: &[u8], out: &mut [u8]) -> u64
+    ensures { λ r. ⌜ MeetsVerdict (checked plain (now (s .entry)) (now (k .entry)) (now (out .entry))) r (now (out .exit)) ⌝ }
+{
+    check_word(check_plain(s, k, out))
 }
 
 // Where rule `number` of a source lies, or the refusal.

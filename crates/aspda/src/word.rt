@@ -6,8 +6,10 @@ use record::Refusal;
 use record::Shown;
 use record::Written;
 use record::number::reason_number;
+use verdict::Check;
+use verdict::Verdict;
 ghost use mathlib.Core.Path.{_≡_};
-ghost use Rattle.aspda.specs.Words.{refusalWord, readingWord, writtenWord, extentWord, shownWord, ShortPlace, ShortExtent, ShortReading, ShortWritten, ShortShown};
+ghost use Rattle.aspda.specs.Words.{refusalWord, readingWord, writtenWord, extentWord, shownWord, ShortPlace, ShortExtent, ShortReading, ShortWritten, ShortShown, ShortVerdict, ShortCheck, verdictWord, checkWord};
 
 pub fn refusal_word(x: Refusal) -> u64
     requires { ⌜ ShortPlace x ⌝ }
@@ -52,5 +54,27 @@ pub fn shown_word(a: Shown) -> u64
     match a {
         Shown::At(e) => extent_word(e),
         Shown::Refused(x) => refusal_word(x),
+    }
+}
+
+pub fn verdict_word(v: Verdict) -> u64
+    requires { ⌜ ShortVerdict v ⌝ }
+    ensures { λ r. ⌜ r ≡ verdictWord v ⌝ }
+{
+    match v {
+        Verdict::Clash(position) => 4294967296 + position as u64,
+        Verdict::Broken(rule) => 8589934592 + rule as u64,
+        Verdict::Smaller(length) => 12884901888 + length as u64,
+        Verdict::Yes => 0,
+    }
+}
+
+pub fn check_word(a: Check) -> u64
+    requires { ⌜ ShortCheck a ⌝ }
+    ensures { λ r. ⌜ r ≡ checkWord a ⌝ }
+{
+    match a {
+        Check::Found(v) => verdict_word(v),
+        Check::Refused(x) => refusal_word(x),
     }
 }

@@ -1,7 +1,9 @@
 -- A set's literals by their keys, in the set's slice.
--- In order: the key of literal number i; ascending keys; whether a literal has a key; the set of keys; a run of literals.
+-- In order: the key of literal number i; ascending keys; whether a literal has a key, and which; the set of keys; a run of
+-- literals.
 -- Assumes nothing.
-use Prim.Native.Nat.{ℕ, zero, suc, _+_, _*_, _<_}
+use Prim.Native.Nat.{ℕ, zero, suc, _+_, _*_, _≤_, _<_}
+use mathlib.Core.Path.{_≡_}
 use mathlib.Core.Bool.{Bool, false, _||_}
 use mathlib.Core.List.{List}
 use lib.Dec.{eqb}
@@ -25,6 +27,12 @@ hasKeyFrom s at (suc n) k = eqb (keyAt (drop at s)) k || hasKeyFrom s (at + 5) n
 -- one of a set's n literals has it
 unfoldable pub hasKey : List ℕ → ℕ → ℕ → Bool
 hasKey s n k = hasKeyFrom s 4 n k
+
+-- r is the number of a literal with this key, from 0; n where none has it
+pub record Place (s : List ℕ) (n k r : ℕ) : Type 0 where
+  pub most : r ≤ n
+  pub found : r < n → memberKey s r ≡ k
+  pub none : n ≤ r → hasKey s n k ≡ false
 
 -- the literals whose key it has, as a set
 abbrev pub keySet : List ℕ → ℕ → LiteralSet

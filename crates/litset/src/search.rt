@@ -7,7 +7,7 @@ ghost use Prim.Native.Nat.{_+_, _*_, _≤_, _<_};
 ghost use lib.Dec.{leb};
 ghost use lib.ListN.{length};
 ghost use Rattle.literal.specs.Order.{keyRoom};
-ghost use Rattle.litset.specs.Keys.{Ascends, hasKey, memberKey};
+ghost use Rattle.litset.specs.Keys.{Ascends, hasKey, memberKey, Place};
 
 // One more than the largest key that five bytes spell.
 const ROOM: u64 = 1099511627776;
@@ -30,18 +30,18 @@ fn weigh(key: u64, wanted: u64) -> usize
     ((ROOM + wanted - key) / ROOM) as usize
 }
 
-// Whether one of `count` literals has this key. Each step halves the part of `size` literals from `base` on that the
-// literal lies in if it is there at all: 13 steps for 5,352 literals, and one comparison at the end.
-pub fn holds(set: &[u8], count: usize, wanted: u64) -> bool
+// The number of the literal with this key, from 0; `count` where none has it. Each step halves the part of `size` literals
+// from `base` on that the literal lies in if it is there at all: 13 steps for 5,352 literals, and one comparison at the end.
+pub fn place_of(set: &[u8], count: usize, wanted: u64) -> usize
     requires { ⌜ 4 + 5 * count ≤ length (now set) ⌝ }
     requires { ⌜ Ascends (now set) count ⌝ }
-    ensures { λ r. ⌜ r ≡ hasKey (now (set .entry)) count wanted ⌝ }
+    ensures { λ r. ⌜ Place (now (set .entry)) count wanted r ⌝ }
 {
     if count == 0 {
-        return false;
+        return count;
     }
     if ROOM <= wanted {
-        return false;
+        return count;
     }
     let mut base: usize = 0;
     let mut size = count;
@@ -51,5 +51,17 @@ pub fn holds(set: &[u8], count: usize, wanted: u64) -> bool
         base += weigh(member_key(set, mid), wanted) * half;
         size -= half;
     }
-    member_key(set, base) == wanted
+    if member_key(set, base) == wanted {
+        return base;
+    }
+    count
+}
+
+// Whether one of `count` literals has this key.
+pub fn holds(set: &[u8], count: usize, wanted: u64) -> bool
+    requires { ⌜ 4 + 5 * count ≤ length (now set) ⌝ }
+    requires { ⌜ Ascends (now set) count ⌝ }
+    ensures { λ r. ⌜ r ≡ hasKey (now (set .entry)) count wanted ⌝ }
+{
+    place_of(set, count, wanted) < count
 }

@@ -17,3 +17,9 @@ pub enum Check {
     Found(Verdict),
     Refused(Refusal),
 }
+
+pub mod clash;
+pub mod decide;
+pub mod judge;
+pub mod proposed;
+pub mod witness;

@@ -1,5 +1,5 @@
 -- The literals of a set's slice that are kept: a set's literals ascend, so that those of source kinds are its first ones.
--- In order: kinds as bytes; no source literal behind a mark; what is counted is kept; its bytes. Not here: counting (`Count`).
+-- In order: kinds as bytes; no source literal behind a mark; what is counted is kept; its bytes. Not here: counting (`Front`).
 -- Assumes nothing.
 use Prim.Native.Nat.{ℕ, _+_, _*_, _≤_, _<_}
 use native.Mathlib.Omega.{arith}
@@ -23,7 +23,7 @@ use Rattle.semantics.proofs.Laws.Tests.{first, second}
 use Rattle.record.specs.Layout.{encodedLiterals}
 use Rattle.record.proofs.Laws.Layout.{encoded-literals-append, length-encoded-literals}
 use Rattle.litset.proofs.Laws.Above.{above}
-use Rattle.litset.proofs.Laws.Keys.{key-here, behind}
+use Rattle.litset.proofs.Laws.Keys.{key-here, keys-behind}
 use Rattle.extend.specs.Restrict.{restrictionList, sourceFront}
 use Rattle.extend.proofs.Laws.Restriction.{restriction-kept, restriction-dropped}
 
@@ -63,7 +63,7 @@ module _ (s : List ℕ) (bytes : Bytes s) where
   marks-behind [] at k h t e = refl
   marks-behind (l ∷ ls) at k h t e =
       restriction-dropped l ls (source-kind l ∙ lt-leb (kind l) 3 (omega (arith, kind-here at l ls e, high)))
-      ∙ marks-behind ls (at + 5) (key l) (omega (arith, higher)) (second (ltb k (key l)) (above (key l) ls) t) (behind s at l ls e)
+      ∙ marks-behind ls (at + 5) (key l) (omega (arith, higher)) (second (ltb k (key l)) (above (key l) ls) t) (keys-behind s at l ls e)
     where
       higher : k < key l
       higher = ltb→lt k (key l) (first (ltb k (key l)) (above (key l) ls) t)
@@ -77,7 +77,7 @@ module _ (s : List ℕ) (bytes : Bytes s) where
   unfolding restrictionList sourceFront
   restriction-front [] at k t e = ([], refl, refl)
   restriction-front (l ∷ ls) at k t e =
-      go (leb (kind l) 3) refl (restriction-front ls (at + 5) (key l) (second (ltb k (key l)) (above (key l) ls) t) (behind s at l ls e))
+      go (leb (kind l) 3) refl (restriction-front ls (at + 5) (key l) (second (ltb k (key l)) (above (key l) ls) t) (keys-behind s at l ls e))
     where
       go : (b : Bool) → leb (kind l) 3 ≡ b → ((rest : List Literal) × (ls ≡ restrictionList ls ++ rest) × (sourceFront s (at + 5) (length ls) ≡ length (restrictionList ls)))
           → (rest : List Literal) × (l ∷ ls ≡ restrictionList (l ∷ ls) ++ rest) × (sourceFront s at (length (l ∷ ls)) ≡ length (restrictionList (l ∷ ls)))
@@ -88,7 +88,7 @@ module _ (s : List ℕ) (bytes : Bytes s) where
             rw (byte-here at l ls e, q) (omega (arith, w .2, ap length kept)),
           )
       go false q w =
-          let none = marks-behind ls (at + 5) (key l) (high-key l (leb-false (kind l) 3 q)) (second (ltb k (key l)) (above (key l) ls) t) (behind s at l ls e) in
+          let none = marks-behind ls (at + 5) (key l) (high-key l (leb-false (kind l) 3 q)) (second (ltb k (key l)) (above (key l) ls) t) (keys-behind s at l ls e) in
           let gone = restriction-dropped l ls (source-kind l ∙ q) ∙ none in (
             l ∷ ls,
             ap (λ (ms : List Literal). ms ++ (l ∷ ls)) (sym gone),

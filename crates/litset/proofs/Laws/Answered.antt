@@ -13,27 +13,20 @@ use Rattle.record.specs.declared.Written.{Written}
 use Rattle.semantics.specs.Rule.{Program}
 use Rattle.record.specs.declared.Reading.{Reading}
 use Rattle.record.specs.Result.{Result, accepted, refused}
-use Rattle.record.specs.Reading.{parsed, readingOf, reading}
+use Rattle.record.specs.Reading.{parsed, reading}
+use Rattle.record.proofs.Laws.Shown.{read-rules, read-refused}
 use Rattle.litset.specs.declared.SetReading.{SetReading}
 use Rattle.litset.specs.Answer.{programRefusal, setRefusal}
 use Rattle.litset.specs.Reading.{parsedSet, setReadingOf, setReading}
 
 module _ (F : Limits) (s : List ℕ) where
   pub program-refused : (x : Refusal) → reading F s ≡ Reading.Refused x → parsed F s ≡ refused x
-  unfolding reading readingOf
-  program-refused x e = go (parsed F s) e
-    where
-      go : (r : Result Program) → readingOf r ≡ Reading.Refused x → r ≡ refused x
-      go (accepted p) q = absurd (let z : _≡_ {A = ℕ} 0 1 = cc in omega arith)
-      go (refused y) q = cc
+  unfolding reading
+  program-refused x e = read-refused (parsed F s) x e
 
   pub program-rules : (n : ℕ) → reading F s ≡ Reading.Rules n → (p : Program) × (parsed F s ≡ accepted p) × (length p ≡ n)
-  unfolding reading readingOf
-  program-rules n e = go (parsed F s) e
-    where
-      go : (r : Result Program) → readingOf r ≡ Reading.Rules n → (p : Program) × (r ≡ accepted p) × (length p ≡ n)
-      go (accepted p) q = (p, refl, cc)
-      go (refused y) q = absurd (let z : _≡_ {A = ℕ} 0 1 = cc in omega arith)
+  unfolding reading
+  program-rules n e = read-rules (parsed F s) n e
 
 module _ (F : Limits) (most : ℕ) (s : List ℕ) where
   pub set-refused : (x : Refusal) → setReading F most s ≡ SetReading.Refused x → parsedSet F most s ≡ refused x

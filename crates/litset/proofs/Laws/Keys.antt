@@ -34,9 +34,9 @@ module _ (s : List ℕ) where
   unfolding encodedLiterals
   key-here at l ls e = ap keyAt e ∙ keyAt-encoded l (encodedLiterals ls)
 
-  pub behind : (at : ℕ) (l : Literal) (ls : List Literal) → drop at s ≡ encodedLiterals (l ∷ ls) → drop (at + 5) s ≡ encodedLiterals ls
+  pub keys-behind : (at : ℕ) (l : Literal) (ls : List Literal) → drop at s ≡ encodedLiterals (l ∷ ls) → drop (at + 5) s ≡ encodedLiterals ls
   unfolding encodedLiterals
-  behind at l ls e = sym (drop-drop 5 at s) ∙ ap (drop 5) e ∙ drop-at (encoded l) (encodedLiterals ls) 5 (length-encoded l)
+  keys-behind at l ls e = sym (drop-drop 5 at s) ∙ ap (drop 5) e ∙ drop-at (encoded l) (encodedLiterals ls) 5 (length-encoded l)
 
   -- literal number j, and the one behind it
   key-first : (at : ℕ) (l : Literal) (ls : List Literal) → drop at s ≡ encodedLiterals (l ∷ ls) → keyAt (drop (at + 5 * 0) s) ≡ key l
@@ -55,7 +55,7 @@ module _ (s : List ℕ) where
         arith,
         key-next at j,
         ltb→lt k (key l) (first (ltb k (key l)) (above (key l) ls) t),
-        keys-above ls (at + 5) (key l) (second (ltb k (key l)) (above (key l) ls) t) (behind at l ls e) j (omega arith),
+        keys-above ls (at + 5) (key l) (second (ltb k (key l)) (above (key l) ls) t) (keys-behind at l ls e) j (omega arith),
       )
 
   keys-ascend : (ls : List Literal) (at k : ℕ) → T (above k ls) → drop at s ≡ encodedLiterals ls → (i j : ℕ) → i < j → j < length ls
@@ -67,14 +67,14 @@ module _ (s : List ℕ) where
         arith,
         key-first at l ls e,
         key-next at j,
-        keys-above ls (at + 5) (key l) (second (ltb k (key l)) (above (key l) ls) t) (behind at l ls e) j (omega arith),
+        keys-above ls (at + 5) (key l) (second (ltb k (key l)) (above (key l) ls) t) (keys-behind at l ls e) j (omega arith),
       )
   keys-ascend (l ∷ ls) at k t e (suc i) (suc j) h m =
       omega (
         arith,
         key-next at i,
         key-next at j,
-        keys-ascend ls (at + 5) (key l) (second (ltb k (key l)) (above (key l) ls) t) (behind at l ls e) i j (omega arith) (omega arith),
+        keys-ascend ls (at + 5) (key l) (second (ltb k (key l)) (above (key l) ls) t) (keys-behind at l ls e) i j (omega arith) (omega arith),
       )
 
   -- a key among those of the literals
@@ -82,7 +82,7 @@ module _ (s : List ℕ) where
   unfolding hasKeyFrom
   has-key-any k [] at e = refl
   has-key-any k (l ∷ ls) at e =
-      ap₂ (λ (x y : Bool). x || y) (ap (λ (i : ℕ). eqb i k) (key-here at l ls e)) (has-key-any k ls (at + 5) (behind at l ls e))
+      ap₂ (λ (x y : Bool). x || y) (ap (λ (i : ℕ). eqb i k) (key-here at l ls e)) (has-key-any k ls (at + 5) (keys-behind at l ls e))
 
 -- the fields of a literal whose bytes are bytes fit two bytes each
 fits-first : (l : Literal) (ls : List Literal) → Bytes (encodedLiterals (l ∷ ls)) → (tagField l < 65536) × (atomField l < 65536)
@@ -93,16 +93,24 @@ bytes-behind : (l : Literal) (ls : List Literal) → Bytes (encodedLiterals (l �
 unfolding encodedLiterals encoded
 bytes-behind l ls h i = h (suc (suc (suc (suc (suc i)))))
 
-fields-fit : {m : Literal} (ls : List Literal) → Bytes (encodedLiterals ls) → List·Memᴰ m ls → (tagField m < 65536) × (atomField m < 65536)
+pub fields-fit : {m : Literal} (ls : List Literal) → Bytes (encodedLiterals ls) → List·Memᴰ m ls → (tagField m < 65536) × (atomField m < 65536)
 fields-fit ls h (List·Memᴰ·head {x} {xs} e) = subst (λ n. (tagField n < 65536) × (atomField n < 65536)) (sym e) (fits-first x xs h)
 fields-fit ls h (List·Memᴰ·tail {x} {xs} m) = fields-fit xs (bytes-behind x xs h) m
 
 -- two literals have the same key exactly if they are the same
-same-key : (l m : Literal) → tagField l < 65536 → atomField l < 65536 → tagField m < 65536 → atomField m < 65536 → eqb (key m) (key l) ≡ sameLiteral l m
+pub same-key : (l m : Literal) → tagField l < 65536 → atomField l < 65536 → tagField m < 65536 → atomField m < 65536 → eqb (key m) (key l) ≡ sameLiteral l m
 same-key l m tl al tm am =
     same-test (eqb (key m) (key l)) (sameLiteral l m)
     (λ t. subst (λ x. T (sameLiteral l x)) (key-injective l m tl al tm am (sym (eqb→eq (key m) (key l) t))) (same-literal-refl l))
     (λ t. subst (λ x. T (eqb (key x) (key l))) (same-literal-eq l m t) (eqb-refl (key l)))
+
+-- of literals that lie behind a count, one has a literal's key exactly if their set holds the literal
+pub has-key-literals : (s : List ℕ) (ls : List Literal) → Bytes s → drop 4 s ≡ encodedLiterals ls → (l : Literal) → tagField l < 65536 → atomField l < 65536
+    → hasKey s (length ls) (key l) ≡ setOf ls l
+unfolding hasKey
+has-key-literals s ls bytes lie l tl al =
+    has-key-any s (key l) ls 4 lie
+    ∙ any-agree ls (λ m mem. let fit = fields-fit ls (subst Bytes lie (bytes-drop 4 s bytes)) mem in same-key l m tl al (fit .0) (fit .1))
 
 module _ (F : Limits) (most : ℕ) (s : List ℕ) (ls : List Literal) (bytes : Bytes s) (e : parsedSet F most s ≡ accepted ls) where
   -- the literals of the set lie behind its count
@@ -121,7 +129,4 @@ module _ (F : Limits) (most : ℕ) (s : List ℕ) (ls : List Literal) (bytes : B
 
   -- a literal's key is found exactly if the set holds the literal
   pub has-key-member : (l : Literal) → tagField l < 65536 → atomField l < 65536 → hasKey s (length ls) (key l) ≡ setOf ls l
-  unfolding hasKey
-  has-key-member l tl al =
-      has-key-any s (key l) ls 4 literals-lie
-      ∙ any-agree ls (λ m mem. let fit = fields-fit ls (subst Bytes literals-lie (bytes-drop 4 s bytes)) mem in same-key l m tl al (fit .0) (fit .1))
+  has-key-member l tl al = has-key-literals s ls bytes literals-lie l tl al

@@ -1,6 +1,6 @@
 -- Laws of the search in a set's slice: what is known of a part is known of one of its halves.
 -- In order: keys, and where literals start; a key that is found, or that no literal has; the part that a search has left,
--- halved and at its end. Assumes nothing.
+-- halved and at its end; the place that is found. Assumes nothing.
 use Prim.Native.Nat.{ℕ, zero, suc, _+_, _-_, _*_, _≤_, _<_}
 use native.Mathlib.Omega.{arith}
 use native.Mathlib.Nat.{eq-or-lt-of-le, add-zero, one-mul, zero-mul}
@@ -15,7 +15,7 @@ use Rattle.buffer.specs.Bytes.{Bytes}
 use Rattle.buffer.proofs.Laws.Bytes.{bytes-drop}
 use Rattle.literal.specs.Order.{keyAt, keyRoom}
 use Rattle.literal.proofs.Laws.Order.{keyAt-lt}
-use Rattle.litset.specs.Keys.{memberKey, Ascends, hasKeyFrom, hasKey}
+use Rattle.litset.specs.Keys.{memberKey, Ascends, hasKeyFrom, hasKey, Place}
 
 -- a literal's key is at most those of the literals from it on
 ascends-le : (s : List ℕ) (n : ℕ) → Ascends s n → (i j : ℕ) → i ≤ j → j < n → memberKey s i ≤ memberKey s j
@@ -122,3 +122,19 @@ module _ (s : List ℕ) (k : ℕ) where
         where
           only : (j : ℕ) → (base ≤ j) × (j < base + size) → j ≡ base
           only j w = omega arith
+
+  -- the place of a literal with the key; and where none has it
+  pub place-found : (n base size : ℕ) → Part n base size → memberKey s base ≡ k → Place s n k base
+  place-found n base size p e =
+      record { most = omega (arith, p .inside); found = λ h. e; none = λ h. absurd (omega (arith, p .some-left, p .inside)) }
+
+  pub place-none : (n : ℕ) → hasKey s n k ≡ false → Place s n k n
+  place-none n e = record { most = omega arith; found = λ h. absurd (omega arith); none = λ h. e }
+
+  -- it is there exactly if its place is before the end
+  pub place-holds : (n r : ℕ) → Place s n k r → ltb r n ≡ hasKey s n k
+  place-holds n r p = go (ltb r n) refl
+    where
+      go : (b : Bool) → ltb r n ≡ b → b ≡ hasKey s n k
+      go true e = let h = ltb-true r n e in sym (has-key-found n r h (p .found h))
+      go false e = sym (p .none (ltb-false r n e))

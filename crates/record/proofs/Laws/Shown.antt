@@ -27,12 +27,12 @@ use Rattle.record.proofs.Laws.Reading.{parsed-sound}
 use Rattle.record.proofs.Laws.Walk.{program-walks, walked-fits}
 
 -- the program that reading counted
-read-rules : (q : Result Program) (k : ℕ) → readingOf q ≡ Reading.Rules k → (p : Program) × (q ≡ accepted p) × (length p ≡ k)
+pub read-rules : (q : Result Program) (k : ℕ) → readingOf q ≡ Reading.Rules k → (p : Program) × (q ≡ accepted p) × (length p ≡ k)
 unfolding readingOf
 read-rules (accepted p) k e = let n : length p ≡ k = cc in (p, refl, n)
 read-rules (refused x) k e = let z : _≡_ {A = ℕ} 0 1 = cc in absurd (omega arith)
 
-read-refused : (q : Result Program) (x : Refusal) → readingOf q ≡ Reading.Refused x → q ≡ refused x
+pub read-refused : (q : Result Program) (x : Refusal) → readingOf q ≡ Reading.Refused x → q ≡ refused x
 unfolding readingOf
 read-refused (accepted p) x e = let z : _≡_ {A = ℕ} 0 1 = cc in absurd (omega arith)
 read-refused (refused y) x e = let q : y ≡ x = cc in ap refused q

@@ -239,7 +239,7 @@ smaller-model-iff qs {s} {ls} w = (
     lacks h t = h .differs (set-ext (setOf s) (setOf ls) (part-subset w) (λ l y. all-mem (setOf s) t (mem-set-of l ls y)))
 
 -- the finding, from what the three searches find
-findingOf : Option ℕ → Option ℕ → Option (List Literal) → Finding
+unfoldable pub findingOf : Option ℕ → Option ℕ → Option (List Literal) → Finding
 findingOf c b o =
     elim c [ some k ↦ clash k | none ↦ elim b [ some n ↦ broken n | none ↦ elim o [ some s ↦ smaller s | none ↦ answerSet ] ] ]
 
@@ -292,7 +292,7 @@ pub record SmallerBy (p : Program) (ls s : List Literal) : Type 0 where
 
 module _ (p : Program) (ls : List Literal) where
   -- where the three searches' results are known, so is the finding
-  found-as : {c b : Option ℕ} {o : Option (List Literal)} → clashFrom 1 p (setOf ls) ls ≡ c → brokenFrom 1 p (setOf ls) ≡ b
+  pub found-as : {c b : Option ℕ} {o : Option (List Literal)} → clashFrom 1 p (setOf ls) ls ≡ c → brokenFrom 1 p (setOf ls) ≡ b
       → firstSubset ls (smallerModel (quotient p (setOf ls)) ls) ≡ o → finding p ls ≡ findingOf c b o
   found-as e f g = finding-of p ls ∙ rw (e, f, g)
 

@@ -1,0 +1,89 @@
+-- `masks::mask_heads` meets its contract. Invariant: the mask and the positions of the literals left, from `at` on, are all the
+-- positions, and those literals lie before the slice's end. Measure: the literals left.
+-- Assumes nothing.
+use Prim.Native.Nat.{_+_, _*_, _≤_}
+use native.Mathlib.Omega.{arith}
+use mathlib.Core.Path.{_≡_, sym, _∙_, ap}
+use lib.Bits.{bitOr}
+use lib.ListN.{length, drop}
+use borrow.Author.Needs.{needs}
+use denote.Ref.{now}
+use Rattle.literal.specs.Order.{keyAt}
+use Rattle.record.proofs.Laws.Literals.{part-to-end}
+use Rattle.clauses.specs.Position.{keyMask, keysAt, union}
+use Rattle.clauses.proofs.Laws.Union.{union-start, positions-next, positions-end}
+use Rattle.clauses.proofs.masks.mask_heads.Statement.{statement}
+use Rattle.clauses.proofs.masks.mask_heads.Tie as tie
+
+abbrev Inv-loop : tie.InvT-loop
+Inv-loop set n count t from at₀ left₀ mask₀ at left mask = (at + 5 * left ≤ length t) × (union (keyMask set n) (keysAt t from count) ≡ bitOr mask (union (keyMask set n) (keysAt t at left)))
+
+abbrev μ-loop : tie.MeasureT-loop
+μ-loop set n count t from at₀ left₀ mask₀ at left mask = left
+
+loop-holds : tie.Need-loop-holds Inv-loop μ-loop
+loop-holds c = (search needs, union-start _ _)
+
+sub-key-at : tie.Need-sub-key-at Inv-loop μ-loop
+sub-key-at c = search needs
+
+part-key-at-start : tie.Need-part-key-at-start Inv-loop μ-loop
+part-key-at-start c = search needs
+
+part-key-at-end : tie.Need-part-key-at-end Inv-loop μ-loop
+part-key-at-end c = search needs
+
+key-at-requires : tie.Need-key-at-requires Inv-loop μ-loop
+key-at-requires c κs =
+    let l = c .before .before .loop in
+    omega (arith, ap length (part-to-end (now (c .before .before .before .before .before .args .t)) (l .at)), l .inv .0, c .before .loop-test .taken)
+
+mask-of-requires : tie.Need-mask-of-requires Inv-loop μ-loop
+mask-of-requires c κs = search needs
+
+-- the mask of the literal at `at`
+masked : (c : tie.After-mask-of Inv-loop μ-loop) → c .mask-of .result ≡ keyMask (now (c .before .before .before .before .before .before .before .args .set)) (c .before .before .before .before .before .before .before .args .n) (keyAt (drop (c .before .before .before .before .loop .at) (now (c .before .before .before .before .before .before .before .args .t))))
+masked c =
+    let a = c .before .before .before .before .before .before .before .args in
+    c .mask-of .ensures ∙ ap (keyMask (now (a .set)) (a .n)) (c .before .key-at .ensures ∙ ap keyAt (part-to-end (now (a .t)) (c .before .before .before .before .loop .at)))
+
+add-at : tie.Need-add-at Inv-loop μ-loop
+add-at c = search needs
+
+sub-left : tie.Need-sub-left Inv-loop μ-loop
+sub-left c = search needs
+
+loop-less : tie.Need-loop-less Inv-loop μ-loop
+loop-less c = search needs
+
+loop-again : tie.Need-loop-again Inv-loop μ-loop
+loop-again c =
+    let a = c .before .before .before .before .before .before .before .args in
+    let l = c .before .before .before .before .loop in (
+      search needs,
+      l .inv .1 ∙ positions-next (now (a .set)) (a .n) (now (a .t)) (l .at) (l .left) (l .mask) (c .mask-of .result) (c .before .before .before .loop-test .taken) (masked c),
+    )
+
+returns : tie.Need-returns Inv-loop μ-loop
+returns c =
+    let a = c .before .before .before .before .args in
+    let l = c .before .loop in
+    sym (l .inv .1 ∙ positions-end (now (a .set)) (a .n) (now (a .t)) (l .at) (l .left) (l .mask) (c .loop-test .left))
+
+pub mask-heads-spec : {M : Type 1} → statement M
+mask-heads-spec =
+    tie.close
+    (tie.spec
+    Inv-loop
+    μ-loop
+    loop-holds
+    sub-key-at
+    part-key-at-start
+    part-key-at-end
+    key-at-requires
+    mask-of-requires
+    add-at
+    sub-left
+    loop-less
+    loop-again
+    returns)

@@ -1,0 +1,42 @@
+-- `options::mask_option` meets its contract, by whether the option is defeated.
+-- Assumes nothing.
+use mathlib.Core.Path.{sym, _∙_, ap}
+use borrow.Author.Needs.{needs}
+use denote.Ref.{now}
+use Rattle.literal.specs.declared.SignedAtom.{SignedAtom}
+use Rattle.literal.specs.declared.Literal.the-variants.{Signed}
+use Rattle.clauses.specs.Rule.{literalMask}
+use Rattle.clauses.proofs.Laws.Left.{left-defeated, left-kept}
+use Rattle.clauses.proofs.options.mask_option.Statement.{statement}
+use Rattle.clauses.proofs.options.mask_option.Tie as tie
+
+is-defeated-requires : tie.Need-is-defeated-requires
+is-defeated-requires c κs = search needs
+
+returns : tie.Need-returns
+returns c =
+    let a = c .before .before .before .before .args in
+    sym (left-defeated (now (a .t)) (now (a .set)) (a .n) (a .at) (sym (c .before .is-defeated .ensures) ∙ c .if1 .taken))
+
+option-at-requires : tie.Need-option-at-requires
+option-at-requires c κs = search needs
+
+mask-literal-requires : tie.Need-mask-literal-requires
+mask-literal-requires c κs = search needs
+
+returns-2 : tie.Need-returns-2
+returns-2 c =
+    let a = c .before .before .before .before .before .before .args in
+    let mask = c .mask-literal .ensures ∙ ap (λ (o : SignedAtom). literalMask (now (a .set)) (a .n) (Signed o)) (c .before .option-at .ensures) in
+    ap (λ k. record { count = 1; mask = k }) mask
+    ∙ sym (left-kept (now (a .t)) (now (a .set)) (a .n) (a .at) (sym (c .before .before .before .is-defeated .ensures) ∙ c .before .before .if1 .left))
+
+pub mask-option-spec : {M : Type 1} → statement M
+mask-option-spec =
+    tie.close
+    (tie.spec
+    is-defeated-requires
+    returns
+    option-at-requires
+    mask-literal-requires
+    returns-2)

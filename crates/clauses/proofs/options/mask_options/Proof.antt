@@ -1,0 +1,79 @@
+-- `options::mask_options` meets its contract. Invariant: the options found and those that are left of the rest are all that are
+-- left, the mask and the positions of the rest are all positions, and no more are found than were passed. Measure: the
+-- options not passed.
+-- Assumes nothing.
+use Prim.Native.Nat.{_+_, _*_, _≤_}
+use native.Mathlib.Omega.{arith}
+use mathlib.Core.Path.{_≡_, sym, _∙_, ap}
+use lib.Bits.{bitOr}
+use lib.ListN.{length}
+use borrow.Author.Needs.{needs}
+use denote.Ref.{now}
+use Rattle.clauses.specs.Position.{union}
+use Rattle.clauses.specs.Rule.{literalMask, leftAt}
+use Rattle.clauses.proofs.Laws.Union.{union-start, union-end}
+use Rattle.clauses.proofs.Laws.Left.{left-count, left-mask, left-none, left-one, left-gathered}
+use Rattle.clauses.proofs.options.mask_options.Statement.{statement}
+use Rattle.clauses.proofs.options.mask_options.Tie as tie
+
+abbrev Inv-loop : tie.InvT-loop
+Inv-loop t heads set n at₀ left₀ count₀ mask₀ at left count mask = (at + 5 * left ≤ length t) × (count + left ≤ heads) × (count + length (leftAt t set n at left) ≡ length (leftAt t set n 7 heads)) × (union (literalMask set n) (leftAt t set n 7 heads) ≡ bitOr mask (union (literalMask set n) (leftAt t set n at left)))
+
+abbrev μ-loop : tie.MeasureT-loop
+μ-loop t heads set n at₀ left₀ count₀ mask₀ at left count mask = left
+
+loop-holds : tie.Need-loop-holds Inv-loop μ-loop
+loop-holds c = (search needs, search needs, search needs, union-start _ _)
+
+mask-option-requires : tie.Need-mask-option-requires Inv-loop μ-loop
+mask-option-requires c κs = search needs
+
+add-count : tie.Need-add-count Inv-loop μ-loop
+add-count c =
+    let a = c .before .before .before .before .before .before .args in
+    let l = c .before .before .before .loop in
+    omega (arith, left-one (now (a .t)) (now (a .set)) (a .n) (l .at) (c .before .mask-option .result) (c .before .mask-option .ensures), l .inv .0, l .inv .1, c .before .before .loop-test .taken)
+
+add-at : tie.Need-add-at Inv-loop μ-loop
+add-at c = search needs
+
+sub-left : tie.Need-sub-left Inv-loop μ-loop
+sub-left c = search needs
+
+loop-less : tie.Need-loop-less Inv-loop μ-loop
+loop-less c = search needs
+
+loop-again : tie.Need-loop-again Inv-loop μ-loop
+loop-again c =
+    let a = c .before .before .before .before .before .before .before .args in
+    let l = c .before .before .before .before .loop in
+    let one = c .before .before .mask-option in
+    let more = c .before .before .before .loop-test .taken in (
+      search needs,
+      omega (arith, l .inv .1, more, left-one (now (a .t)) (now (a .set)) (a .n) (l .at) (one .result) (one .ensures)),
+      omega (arith, l .inv .2, left-count (now (a .t)) (now (a .set)) (a .n) (l .at) (l .left) (one .result) more (one .ensures)),
+      l .inv .3 ∙ left-mask (now (a .t)) (now (a .set)) (a .n) (l .at) (l .left) (l .mask) (one .result) more (one .ensures),
+    )
+
+returns : tie.Need-returns Inv-loop μ-loop
+returns c =
+    let a = c .before .before .before .before .args in
+    let l = c .before .loop in
+    let none = left-none (now (a .t)) (now (a .set)) (a .n) (l .at) (l .left) (c .loop-test .left) in
+    left-gathered (now (a .set)) (a .n) _ (l .count) (l .mask) (omega (arith, l .inv .2, ap length none))
+    (sym (l .inv .3 ∙ ap (λ ls. bitOr (l .mask) (union (literalMask (now (a .set)) (a .n)) ls)) none ∙ union-end (literalMask (now (a .set)) (a .n)) (l .mask)))
+
+pub mask-options-spec : {M : Type 1} → statement M
+mask-options-spec =
+    tie.close
+    (tie.spec
+    Inv-loop
+    μ-loop
+    loop-holds
+    mask-option-requires
+    add-count
+    add-at
+    sub-left
+    loop-less
+    loop-again
+    returns)

@@ -1,0 +1,3 @@
+pub mod Position
+pub mod Rule
+pub mod Build

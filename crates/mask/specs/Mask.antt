@@ -1,0 +1,36 @@
+-- A number as a set of positions: position i is in it if the binary digit i, counted from the lowest, is set.
+-- In order: a position is in a mask; parts of a mask; masks apart; what is left of a mask; a mask of one position; the highest position.
+-- Not here: what the positions stand for (`search`).
+-- Assumes nothing.
+use Prim.Native.Nat.{ℕ, zero, suc, _*_, _/_, _%_, _<_}
+use mathlib.Core.Path.{_≡_}
+use mathlib.Core.Bool.{Bool}
+use lib.Bits.{bitAnd, bitXor}
+use lib.Dec.{eqb}
+
+-- position i is in the mask m
+unfoldable pub has : ℕ → ℕ → Bool
+has m zero = eqb (m % 2) 1
+has m (suc i) = has (m / 2) i
+
+-- each position of a is one of b
+abbrev pub Within : ℕ → ℕ → Type 0
+Within a b = bitAnd a b ≡ a
+
+-- no position of a is one of b
+abbrev pub Apart : ℕ → ℕ → Type 0
+Apart a b = bitAnd a b ≡ 0
+
+-- the positions of a that are not in b
+abbrev pub rest : ℕ → ℕ → ℕ
+rest a b = bitXor a (bitAnd a b)
+
+-- m has at most one position: a mask that is not apart from it has all of it
+pub record Single (m : ℕ) : Type 0 where
+  pub whole : (x : ℕ) → (Apart m x → ⊥) → Within m x
+
+-- b is the highest position of m
+pub record Highest (m b : ℕ) : Type 0 where
+  pub within : Within b m
+  pub single : Single b
+  pub above : m < b * 2

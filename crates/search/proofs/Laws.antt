@@ -1,0 +1,13 @@
+pub mod Narrow
+pub mod Force
+pub mod Pass
+pub mod Smaller
+pub mod Open
+pub mod First
+pub mod Picked
+pub mod Position
+pub mod Union
+pub mod Clause
+pub mod Whole
+pub mod Bridge
+pub mod Build

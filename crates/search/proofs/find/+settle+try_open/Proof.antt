@@ -1,0 +1,180 @@
+-- The proof of `find::settle` and `find::try_open`, which call each other. `settle` tries what propagation leaves open, at most
+-- as many literals, and `try_open` settles with one literal fewer open: twice the open literals is the measure of `try_open`,
+-- and one more that of `settle`.
+-- Assumes nothing.
+use Prim.Native.Nat.{ℕ, _+_, _*_, _<_}
+use native.Mathlib.Omega.{arith}
+use borrow.Author.Needs.{needs}
+use borrow.Author.Tests.{not-true, not-false}
+use borrow.Fn.Kinds.{In}
+use borrow.Fn.PlainCycle.{Measures, is, falls, and}
+use denote.Ref.{now}
+use Rattle.search.specs.Clause.{Model}
+use Rattle.search.proofs.Laws.Narrow.{open-count, fewer-open}
+use Rattle.search.proofs.Laws.Open.{open-some, tries-inside, tries-less}
+use Rattle.search.proofs.Laws.First.{first-dead, first-left, first-leaf, first-absent, first-present}
+use Rattle.search.proofs.find.settle.Reads as settle
+use Rattle.search.proofs.find.settle.Kinds as settle-kinds
+use Rattle.search.proofs.find.+settle+try_open.Lts-settle as settle-lts
+use Rattle.search.proofs.find.try_open.Reads as try-open
+use Rattle.search.proofs.find.try_open.Kinds as try-open-kinds
+use Rattle.search.proofs.find.+settle+try_open.Lts-try_open as try-open-lts
+use Rattle.mask.proofs.highest.Reads as highest-reads
+use Rattle.search.proofs.narrow.propagate.Reads as propagate-reads
+use Rattle.search.proofs.find.+settle+try_open.{statement}
+use Rattle.search.proofs.find.+settle+try_open.Tie.{close}
+
+abbrev μ-settle : Measures 2 settle-kinds.ps ℕ
+μ-settle κs a = 2 * open-count (a .1 .1 .1 .1 .0) (a .1 .1 .1 .1 .1 .0) + 1
+
+abbrev μ-try-open : Measures 2 try-open-kinds.ps ℕ
+μ-try-open κs a = 2 * open-count (a .1 .1 .1 .1 .0) (a .1 .1 .1 .1 .1 .0)
+
+abbrev settle-at : ℕ → In 2 settle-kinds.ps
+settle-at t = and 2 settle-kinds.ps (is 2 settle-kinds.ps μ-settle t) settle.Pre
+
+abbrev settle-below : ℕ → In 2 settle-kinds.ps
+settle-below t = and 2 settle-kinds.ps (falls 2 settle-kinds.ps _<_ μ-settle t) settle.Pre
+
+abbrev try-open-at : ℕ → In 2 try-open-kinds.ps
+try-open-at t = and 2 try-open-kinds.ps (is 2 try-open-kinds.ps μ-try-open t) try-open.Pre
+
+abbrev try-open-below : ℕ → In 2 try-open-kinds.ps
+try-open-below t =
+    and 2 try-open-kinds.ps (falls 2 try-open-kinds.ps _<_ μ-try-open t) try-open.Pre
+
+settle-propagate-requires : (t : ℕ) → settle-lts.Need-propagate-requires (
+  propagate-reads.Asked,
+  propagate-reads.Learnt,
+  try-open-below t,
+  try-open.Post,
+) (settle-at t) settle.Post
+settle-propagate-requires t c κs = c .before .before .pre .1
+
+settle-returns : (t : ℕ) → settle-lts.Need-returns (
+  propagate-reads.Asked,
+  propagate-reads.Learnt,
+  try-open-below t,
+  try-open.Post,
+) (settle-at t) settle.Post
+settle-returns t c = first-dead (c .before .before .propagate .ensures) (not-true _ (c .if1 .taken))
+
+settle-try-open-requires : (t : ℕ) → settle-lts.Need-try-open-requires (
+  propagate-reads.Asked,
+  propagate-reads.Learnt,
+  try-open-below t,
+  try-open.Post,
+) (settle-at t) settle.Post
+settle-try-open-requires t c κs =
+    let at-propagate = c .before .before in
+    let start = at-propagate .before .before .before in
+    let a = start .args in
+    let v = at-propagate .propagate .ensures in
+    let fewer = fewer-open {P = Model (a .whole) (now (a .bodies)) (now (a .heads)) (a .count)} (v .kept) in
+    (omega (arith, fewer, start .pre .0), (start .pre .1 .0, start .pre .1 .1, v .kept .inside (start .pre .1 .2), v .leaf (not-false _ (c .if1 .left))))
+
+settle-returns-2 : (t : ℕ) → settle-lts.Need-returns-2 (
+  propagate-reads.Asked,
+  propagate-reads.Learnt,
+  try-open-below t,
+  try-open.Post,
+) (settle-at t) settle.Post
+settle-returns-2 t c = first-left (c .before .before .before .propagate .ensures) (c .try-open .ensures)
+
+try-open-returns : (t : ℕ) → try-open-lts.Need-returns (
+  highest-reads.Asked,
+  highest-reads.Learnt,
+  settle-below t,
+  settle.Post,
+) (try-open-at t) try-open.Post
+try-open-returns t c = first-leaf (c .if1 .taken) (c .before .before .before .pre .1 .3 (c .if1 .taken))
+
+try-open-highest-requires : (t : ℕ) → try-open-lts.Need-highest-requires (
+  highest-reads.Asked,
+  highest-reads.Learnt,
+  settle-below t,
+  settle.Post,
+) (try-open-at t) try-open.Post
+try-open-highest-requires t c κs =
+    let start = c .before .before .before in
+    open-some (start .args .must) (start .args .may) (start .pre .1 .2) (c .if1 .left)
+
+try-open-settle-requires : (t : ℕ) → try-open-lts.Need-settle-requires (
+  highest-reads.Asked,
+  highest-reads.Learnt,
+  settle-below t,
+  settle.Post,
+) (try-open-at t) try-open.Post
+try-open-settle-requires t c κs =
+    let at-highest = c in
+    let start = at-highest .before .before .before .before in
+    let a = start .args in
+    let less = tries-less (a .must) (a .may) _ (start .pre .1 .2) (at-highest .highest .ensures) in
+    let inside = tries-inside (a .must) (a .may) _ (start .pre .1 .2) (at-highest .highest .ensures) in
+    (omega (arith, less, start .pre .0), (start .pre .1 .0, start .pre .1 .1, search needs))
+
+try-open-returns-2 : (t : ℕ) → try-open-lts.Need-returns-2 (
+  highest-reads.Asked,
+  highest-reads.Learnt,
+  settle-below t,
+  settle.Post,
+) (try-open-at t) try-open.Post
+try-open-returns-2 t c =
+    let at-absent = c .before in
+    let at-highest = at-absent .before in
+    let start = at-highest .before .before .before .before in
+    let a = start .args in
+    first-absent {P = Model (a .whole) (now (a .bodies)) (now (a .heads)) (a .count)} (start .pre .1 .2) (at-highest .highest .ensures) (c .if2 .taken) (at-absent .settle .ensures)
+
+try-open-settle-requires-2 : (t : ℕ) → try-open-lts.Need-settle-requires-2 (
+  highest-reads.Asked,
+  highest-reads.Learnt,
+  settle-below t,
+  settle.Post,
+) (try-open-at t) try-open.Post
+try-open-settle-requires-2 t c κs =
+    let at-highest = c .before .before in
+    let start = at-highest .before .before .before .before in
+    let a = start .args in
+    let less = tries-less (a .must) (a .may) _ (start .pre .1 .2) (at-highest .highest .ensures) in
+    let inside = tries-inside (a .must) (a .may) _ (start .pre .1 .2) (at-highest .highest .ensures) in
+    (omega (arith, less, start .pre .0), (start .pre .1 .0, start .pre .1 .1, search needs))
+
+try-open-returns-3 : (t : ℕ) → try-open-lts.Need-returns-3 (
+  highest-reads.Asked,
+  highest-reads.Learnt,
+  settle-below t,
+  settle.Post,
+) (try-open-at t) try-open.Post
+try-open-returns-3 t c =
+    let at-none = c .before in
+    let at-absent = at-none .before in
+    let at-highest = at-absent .before in
+    let start = at-highest .before .before .before .before in
+    let a = start .args in
+    first-present {P = Model (a .whole) (now (a .bodies)) (now (a .heads)) (a .count)} (start .pre .1 .2) (at-highest .highest .ensures) (at-none .if2 .left) (at-absent .settle .ensures)
+    (c .settle2 .ensures)
+
+pub +settle+try-open-spec : {M : Type 1} → statement M
++settle+try-open-spec = close μ-settle μ-try-open (λ t. settle-lts.spec (
+  propagate-reads.Asked,
+  propagate-reads.Learnt,
+  try-open-below t,
+  try-open.Post,
+)
+    (settle-at t)
+    settle.Post
+    (settle-propagate-requires t)
+    (settle-returns t)
+    (settle-try-open-requires t)
+    (settle-returns-2 t))
+    λ t. try-open-lts.spec
+    (highest-reads.Asked, highest-reads.Learnt, settle-below t, settle.Post)
+    (try-open-at t)
+    try-open.Post
+    (try-open-returns t)
+    (try-open-highest-requires t)
+    (try-open-settle-requires t)
+    (try-open-returns-2 t)
+    (try-open-settle-requires-2 t)
+    (try-open-returns-3 t)

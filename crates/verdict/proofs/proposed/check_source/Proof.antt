@@ -1,0 +1,26 @@
+-- `proposed::check_source` meets its contract: the limits are those of the source form.
+-- Assumes nothing.
+use borrow.Author.Needs.{needs}
+use denote.Ref.{now}
+use Rattle.verdict.proofs.Laws.Forms.{checkable-source, checked-same}
+use Rattle.verdict.proofs.proposed.check_source.Statement.{statement}
+use Rattle.verdict.proofs.proposed.check_source.Tie as tie
+
+limits-requires : tie.Need-limits-requires
+limits-requires c κs = search needs
+
+check-requires : tie.Need-check-requires
+check-requires c κs = checkable-source (c .before .limits .ensures)
+
+same-length : tie.Need-same-length
+same-length c = search needs
+
+returns : tie.Need-returns
+returns c =
+    let at-check = c .before .before in
+    let at-limits = at-check .before .before in
+    let a = at-limits .before .before .before .before .args in
+    checked-same (now (a .s)) (now (a .k)) (a .out .now) (at-limits .limits .ensures) (at-check .check .ensures)
+
+pub check-source-spec : {M : Type 1} → statement M
+check-source-spec = tie.close (tie.spec limits-requires check-requires same-length returns)
