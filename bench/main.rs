@@ -1,6 +1,8 @@
 //! How fast each operation is, beside plain Rust on the same bytes, in one run.
 //! Both are built for release; the ratio is the proved code's speed over the plain one's.
 
+mod checks;
+mod plain_check;
 mod plain_reader;
 mod plain_sets;
 mod plain_translator;
@@ -151,4 +153,5 @@ fn main() {
     translate_row("translate all", &source());
     translate_row("translate D:", &options());
     sets::rows();
-    }
+    checks::rows();
+}

@@ -1,5 +1,5 @@
 #!/usr/bin/env bash
-# Builds the library and the benchmark for release, and prints each operation's speed beside plain Rust.
+# Builds the library and the benchmark for release, and prints each operation's speed beside plain Rust (rustc 1.88 or newer).
 set -euo pipefail
 cd "$(dirname "${BASH_SOURCE[0]}")/.."
 [ -f target/staticlib/libaspda.a ] || rt staticlib aspda

@@ -5,7 +5,11 @@ use crate::masks::mask_literal;
 use emit::options::option_at;
 use emit::options::tag_at;
 use literal::Literal;
-use litset::member::is_member;
+use literal::code::atom_of;
+use literal::code::kind_of;
+use literal::code::tag_of;
+use literal::order::make_key;
+use litset::search::holds;
 ghost use mathlib.Core.Path.{_≡_};
 ghost use Prim.Native.Nat.{_+_, _*_, _≤_};
 ghost use lib.ListN.{length};
@@ -23,7 +27,8 @@ fn is_defeated(t: &[u8], at: usize, set: &[u8], n: usize) -> bool
 {
     let tag = tag_at(t);
     let option = option_at(t, at);
-    is_member(set, n, Literal::Defeated(tag, option))
+    let mark = Literal::Defeated(tag, option);
+    holds(set, n, make_key(kind_of(mark), tag_of(mark), atom_of(mark)))
 }
 
 // The option at a place, where it is left.

@@ -130,11 +130,3 @@ module _ (s : List ℕ) (k : ℕ) where
 
   pub place-none : (n : ℕ) → hasKey s n k ≡ false → Place s n k n
   place-none n e = record { most = omega arith; found = λ h. absurd (omega arith); none = λ h. e }
-
-  -- it is there exactly if its place is before the end
-  pub place-holds : (n r : ℕ) → Place s n k r → ltb r n ≡ hasKey s n k
-  place-holds n r p = go (ltb r n) refl
-    where
-      go : (b : Bool) → ltb r n ≡ b → b ≡ hasKey s n k
-      go true e = let h = ltb-true r n e in sym (has-key-found n r h (p .found h))
-      go false e = sym (p .none (ltb-false r n e))

@@ -1,17 +1,111 @@
--- `search::holds` meets its contract: the literal's place is before the end.
+-- `search::holds` meets its contract. Invariant: a literal with the key, if there is one, is one of `size` from `base` on.
+-- Measure: the size.
 -- Assumes nothing.
+use Prim.Native.Nat.{_+_, _/_}
+use native.Mathlib.Omega.{arith}
+use mathlib.Core.Path.{sym, _∙_, ap}
+use mathlib.Core.Bool.{cond}
+use borrow.Author.Needs.{needs}
 use denote.Ref.{now}
-use Rattle.litset.proofs.Laws.Search.{place-holds}
+use lib.Dec.{leb, eqb}
+use Rattle.litset.proofs.Laws.Search.{Part, member-key-lt, has-key-none, part-whole, part-step, part-one}
+use Rattle.litset.proofs.Laws.Weight.{weight-le}
 use Rattle.litset.proofs.search.holds.Statement.{statement}
 use Rattle.litset.proofs.search.holds.Tie as tie
 
-place-of-requires : tie.Need-place-of-requires
-place-of-requires c κs = c .before .pre
+abbrev Inv-loop : tie.InvT-loop
+Inv-loop set count wanted base₀ size₀ base size = Part set wanted count base size
 
-returns : tie.Need-returns
+abbrev μ-loop : tie.MeasureT-loop
+μ-loop set count wanted base₀ size₀ base size = size
+
+returns : tie.Need-returns Inv-loop μ-loop
 returns c =
     let a = c .before .before .args in
-    place-holds (now (a .set)) (a .wanted) (a .count) (c .place-of .result) (c .place-of .ensures)
+    sym (has-key-none (now (a .set)) (a .wanted) (a .count) (λ j l e. omega arith))
+
+returns-2 : tie.Need-returns-2 Inv-loop μ-loop
+returns-2 c =
+    let known = c .before .before in
+    let a = known .before .args in
+    sym (has-key-none (now (a .set)) (a .wanted) (a .count)
+    (λ j l e. omega (arith, c .if2 .taken, member-key-lt (now (a .set)) (λ i. known .shared-slice-known .given i .fits) j)))
+
+loop-holds : tie.Need-loop-holds Inv-loop μ-loop
+loop-holds c =
+    let a = c .before .before .before .args in
+    part-whole (now (a .set)) (a .wanted) (a .count) (omega arith)
+
+add-mid : tie.Need-add-mid Inv-loop μ-loop
+add-mid c = search needs
+
+member-key-requires : tie.Need-member-key-requires Inv-loop μ-loop
+member-key-requires c κs = search needs
+
+weigh-requires : tie.Need-weigh-requires Inv-loop μ-loop
+weigh-requires c κs =
+    let at-loop = c .before .before in
+    let known = at-loop .before .before .before in
+    let a = known .before .args in
+    let l = at-loop .loop in
+    let low = member-key-lt (now (a .set)) (λ i. known .shared-slice-known .given i .fits) (l .base + l .size / 2) in
+    (omega (arith, low, c .member-key .ensures), omega (arith, at-loop .before .if2 .left))
+
+mul-base : tie.Need-mul-base Inv-loop μ-loop
+mul-base c =
+    let at-loop = c .before .before .before in
+    let a = at-loop .before .before .before .before .args in
+    omega (arith, weight-le (c .before .member-key .result) (a .wanted) (c .weigh .result) (at-loop .loop .size / 2) (c .weigh .ensures))
+
+add-base : tie.Need-add-base Inv-loop μ-loop
+add-base c =
+    let at-loop = c .before .before .before in
+    let a = at-loop .before .before .before .before .args in
+    omega (arith, weight-le (c .before .member-key .result) (a .wanted) (c .weigh .result) (at-loop .loop .size / 2) (c .weigh .ensures))
+
+sub-size : tie.Need-sub-size Inv-loop μ-loop
+sub-size c = search needs
+
+loop-less : tie.Need-loop-less Inv-loop μ-loop
+loop-less c = search needs
+
+loop-again : tie.Need-loop-again Inv-loop μ-loop
+loop-again c =
+    let at-loop = c .before .before .before in
+    let start = at-loop .before .before .before .before in
+    let a = start .args in
+    let l = at-loop .loop in
+    let weight = c .weigh .ensures ∙ ap (λ k. cond (leb k (a .wanted)) 1 0) (c .before .member-key .ensures) in
+    part-step (now (a .set)) (a .wanted) (a .count) (l .base) (l .size) (l .size / 2) (start .pre .1)
+    (omega (arith, c .before .before .loop-test .taken)) (omega arith) (l .inv) (c .weigh .result) weight
+
+member-key-requires-2 : tie.Need-member-key-requires-2 Inv-loop μ-loop
+member-key-requires-2 c κs = search needs
+
+returns-3 : tie.Need-returns-3 Inv-loop μ-loop
+returns-3 c =
+    let at-loop = c .before .before in
+    let a = at-loop .before .before .before .before .args in
+    let l = at-loop .loop in
+    ap (λ k. eqb k (a .wanted)) (c .member-key2 .ensures)
+    ∙ sym (part-one (now (a .set)) (a .wanted) (a .count) (l .base) (l .size) (l .inv) (omega (arith, c .before .loop-test .left)))
 
 pub holds-spec : {M : Type 1} → statement M
-holds-spec = tie.close (tie.spec place-of-requires returns)
+holds-spec =
+    tie.close
+    (tie.spec
+    Inv-loop
+    μ-loop
+    returns
+    returns-2
+    loop-holds
+    add-mid
+    member-key-requires
+    weigh-requires
+    mul-base
+    add-base
+    sub-size
+    loop-less
+    loop-again
+    member-key-requires-2
+    returns-3)

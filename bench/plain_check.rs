@@ -1,0 +1,150 @@
+//! The check in plain safe Rust, the measure for the proved one: the same refusals in the same order, the same search, the
+//! same word, the same witness. The program is read once into clauses over the set's positions; the search goes on those.
+
+use crate::plain_reader::{read, refusal, Limits};
+use crate::plain_sets::{key, read_set, Rules, Set};
+use crate::plain_translator::Out;
+
+const CHECKED: usize = 64;
+
+/// What is left of a rule, for parts of the set: some body literal missing or some head literal present.
+#[derive(Clone, Copy)]
+struct Clause {
+    body: u64,
+    head: u64,
+}
+
+/// What is known of a part of the set: what it must hold, and what it may.
+#[derive(Clone, Copy, PartialEq, Eq)]
+struct Bounds {
+    must: u64,
+    may: u64,
+}
+
+/// The bit of a literal, the set's first literal highest, or none where it is not in the set.
+fn bit(set: &Set, literal: &[u8]) -> Option<u64> {
+    let literals = set.bytes.as_chunks::<5>().0;
+    let place = literals.binary_search_by(|held| key(held).cmp(&key(literal))).ok()?;
+    Some(1 << (literals.len() - 1 - place))
+}
+
+/// The position from 1 of the first literal whose opposite is in the set.
+fn clash(set: &Set) -> Option<u64> {
+    let has_opposite = |literal: &[u8]| literal[0] < 2 && set.holds(&[1 - literal[0], 0, 0, literal[3], literal[4]]);
+    set.bytes.chunks_exact(5).position(has_opposite).map(|position| position as u64 + 1)
+}
+
+/// The clauses of the quotient, or the number of the first rule that does not hold in the set.
+fn clauses(program: &[u8], rules: usize, set: &Set) -> Result<Vec<Clause>, u64> {
+    let mut clauses = Vec::with_capacity(rules);
+    for (rule, number) in Rules(program).zip(1..) {
+        let Some(left) = rule.left(set) else { continue };
+        let positives = rule.positives.chunks_exact(5);
+        let Some(body) = positives.map(|literal| bit(set, literal)).try_fold(0, |all, one| Some(all | one?)) else {
+            continue;
+        };
+        let kept = rule.options().enumerate().filter(|(i, _)| left >> i & 1 == 1);
+        let head = kept.filter_map(|(_, literal)| bit(set, literal)).fold(0, |all, one| all | one);
+        if head == 0 {
+            return Err(number);
+        }
+        clauses.push(Clause { body, head });
+    }
+    Ok(clauses)
+}
+
+/// What one clause forces, or none where it can no longer hold. A literal in body and head alike forces nothing.
+fn force(clause: Clause, bounds: Bounds) -> Option<Bounds> {
+    let Bounds { must, may } = bounds;
+    if clause.body & !may != 0 || clause.head & must != 0 {
+        return Some(bounds);
+    }
+    let (needed, left) = (clause.body & !must, clause.head & may);
+    let open = needed | left;
+    if open & open.wrapping_sub(1) != 0 {
+        return Some(bounds);
+    }
+    match (needed, left) {
+        (0, 0) => None,
+        (0, left) => Some(Bounds { must: must | left, may }),
+        (needed, 0) => Some(Bounds { must, may: may ^ needed }),
+        _ => Some(bounds),
+    }
+}
+
+/// The clauses of a search, the first of which is that not the whole set is there.
+struct Search {
+    whole: Clause,
+    clauses: Vec<Clause>,
+}
+
+impl Search {
+    /// Everything that the clauses force, sweep by sweep.
+    fn propagate(&self, mut bounds: Bounds) -> Option<Bounds> {
+        loop {
+            let before = bounds;
+            bounds = force(self.whole, bounds)?;
+            for &clause in &self.clauses {
+                bounds = force(clause, bounds)?;
+            }
+            if bounds == before {
+                return Some(bounds);
+            }
+        }
+    }
+
+    /// The first model between the bounds, absent before present.
+    fn first(&self, bounds: Bounds) -> Option<u64> {
+        let Bounds { must, may } = self.propagate(bounds)?;
+        if must == may {
+            return Some(must);
+        }
+        let open = 1 << (may ^ must).ilog2();
+        self.first(Bounds { must, may: may ^ open }).or_else(|| self.first(Bounds { must: must | open, may }))
+    }
+}
+
+/// The A: record of the literals whose bits are in the model, at the start of `out`.
+fn write_picked(set: &Set, model: u64, out: &mut [u8]) -> u64 {
+    let count = model.count_ones() as u16;
+    let mut out = Out { bytes: out, to: 0 };
+    out.put(b"A:");
+    out.put(&count.to_be_bytes());
+    let size = set.bytes.len() / 5;
+    for (i, literal) in set.bytes.chunks_exact(5).enumerate() {
+        if model >> (size - 1 - i) & 1 == 1 {
+            out.put(literal);
+        }
+    }
+    4 + 5 * count as u64
+}
+
+fn verdict(limits: &Limits, program: &[u8], record: &[u8], out: &mut [u8]) -> Result<u64, u64> {
+    let held = read(limits, program);
+    if held >> 63 == 1 {
+        return Err(held);
+    }
+    let set = read_set(limits, CHECKED, record)?;
+    if out.len() < record.len() {
+        return Err(refusal(9, 0));
+    }
+    if let Some(position) = clash(&set) {
+        return Ok((1 << 32) + position);
+    }
+    let clauses = match clauses(program, held as usize, &set) {
+        Ok(clauses) => clauses,
+        Err(rule) => return Ok((2 << 32) + rule),
+    };
+    let all = u64::MAX.checked_shr(64 - (set.bytes.len() / 5) as u32).unwrap_or(0);
+    let search = Search { whole: Clause { body: all, head: 0 }, clauses };
+    match search.first(Bounds { must: 0, may: all }) {
+        None => Ok(0),
+        Some(model) => Ok((3 << 32) + write_picked(&set, model, out)),
+    }
+}
+
+pub fn check(limits: &Limits, program: &[u8], set: &[u8], out: &mut [u8]) -> u64 {
+    match verdict(limits, program, set, out) {
+        Ok(word) | Err(word) => word,
+    }
+}
