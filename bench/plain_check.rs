@@ -53,15 +53,17 @@ fn clauses(program: &[u8], rules: usize, set: &Set) -> Result<Vec<Clause>, u64> 
     Ok(clauses)
 }
 
+/// What a mask has besides its lowest position.
+fn without_lowest(mask: u64) -> u64 {
+    mask & mask.wrapping_sub(1)
+}
+
 /// What one clause forces, or none where it can no longer hold. A literal in body and head alike forces nothing.
 fn force(clause: Clause, bounds: Bounds) -> Option<Bounds> {
     let Bounds { must, may } = bounds;
-    if clause.body & !may != 0 || clause.head & must != 0 {
-        return Some(bounds);
-    }
+    let met = (clause.body & !may) | (clause.head & must);
     let (needed, left) = (clause.body & !must, clause.head & may);
-    let open = needed | left;
-    if open & open.wrapping_sub(1) != 0 {
+    if met | without_lowest(needed | left) != 0 {
         return Some(bounds);
     }
     match (needed, left) {
@@ -69,6 +71,23 @@ fn force(clause: Clause, bounds: Bounds) -> Option<Bounds> {
         (0, left) => Some(Bounds { must: must | left, may }),
         (needed, 0) => Some(Bounds { must, may: may ^ needed }),
         _ => Some(bounds),
+    }
+}
+
+/// How often each position stood in some masks: a mask for each binary digit of the counts.
+#[derive(Clone, Copy, Default)]
+struct Tally([u64; 8]);
+
+impl Tally {
+    fn add(&mut self, mut mask: u64) {
+        for digit in &mut self.0 {
+            (*digit, mask) = (*digit ^ mask, *digit & mask);
+        }
+    }
+
+    /// The positions of a mask that were counted most often.
+    fn most(&self, mask: u64) -> u64 {
+        self.0.iter().rev().fold(mask, |left, digit| if left & digit == 0 { left } else { left & digit })
     }
 }
 
@@ -93,14 +112,46 @@ impl Search {
         }
     }
 
-    /// The first model between the bounds, absent before present.
-    fn first(&self, bounds: Bounds) -> Option<u64> {
+    /// An open literal: most often in clauses with two open literals, then in longer ones.
+    fn pick(&self, must: u64, may: u64) -> u64 {
+        let (mut pairs, mut longer) = (Tally::default(), Tally::default());
+        for &Clause { body, head } in &self.clauses {
+            if (body & !may) | (head & must) == 0 {
+                let open = (body & !must) | (head & may);
+                let pair = if without_lowest(without_lowest(open)) == 0 { open } else { 0 };
+                pairs.add(pair);
+                longer.add(open ^ pair);
+            }
+        }
+        1 << longer.most(pairs.most(may ^ must)).ilog2()
+    }
+
+    /// Any model between the bounds.
+    fn any(&self, bounds: Bounds) -> Option<u64> {
         let Bounds { must, may } = self.propagate(bounds)?;
         if must == may {
             return Some(must);
         }
-        let open = 1 << (may ^ must).ilog2();
-        self.first(Bounds { must, may: may ^ open }).or_else(|| self.first(Bounds { must: must | open, may }))
+        let open = self.pick(must, may);
+        self.any(Bounds { must, may: may ^ open }).or_else(|| self.any(Bounds { must: must | open, may }))
+    }
+
+    /// The first model between the bounds, absent before present: from any one, literal by literal.
+    fn first(&self, bounds: Bounds) -> Option<u64> {
+        let mut model = self.any(bounds)?;
+        let Bounds { mut must, mut may } = bounds;
+        while must != may {
+            let open = 1 << (may ^ must).ilog2();
+            if model & open == 0 {
+                may ^= open;
+            } else if let Some(other) = self.any(Bounds { must, may: may ^ open }) {
+                model = other;
+                may ^= open;
+            } else {
+                must |= open;
+            }
+        }
+        Some(must)
     }
 }
 

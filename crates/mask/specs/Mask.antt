@@ -1,5 +1,5 @@
 -- A number as a set of positions: position i is in it if the binary digit i, counted from the lowest, is set.
--- In order: a position is in a mask; parts of a mask; masks apart; what is left of a mask; a mask of one position; the highest position.
+-- In order: a position is in a mask; parts of a mask; masks apart; what is left of a mask; a mask of one position; a position of a mask, the highest.
 -- Not here: what the positions stand for (`search`).
 -- Assumes nothing.
 use Prim.Native.Nat.{ℕ, zero, suc, _*_, _/_, _%_, _<_}
@@ -29,8 +29,13 @@ rest a b = bitXor a (bitAnd a b)
 pub record Single (m : ℕ) : Type 0 where
   pub whole : (x : ℕ) → (Apart m x → ⊥) → Within m x
 
--- b is the highest position of m
-pub record Highest (m b : ℕ) : Type 0 where
+-- b is one position of m
+pub record Position (m b : ℕ) : Type 0 where
   pub within : Within b m
   pub single : Single b
+  pub some : 0 < b
+
+-- b is the highest position of m
+pub record Highest (m b : ℕ) : Type 0 where
+  pub position : Position m b
   pub above : m < b * 2

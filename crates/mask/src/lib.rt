@@ -1,9 +1,9 @@
 // A u64 as a set of positions.
 
 ghost use mathlib.Core.Path.{_≡_};
-ghost use mathlib.Core.Bool.{true};
 ghost use Prim.Native.Nat.{_-_, _^_, _≤_, _<_};
-ghost use Rattle.mask.specs.Mask.{has, Single, Highest};
+ghost use lib.Bits.{bitAnd};
+ghost use Rattle.mask.specs.Mask.{has, Highest};
 
 // The mask of one position.
 pub fn single_at(i: u32) -> u64
@@ -32,12 +32,14 @@ pub fn is_in(m: u64, i: u32) -> bool
     m >> i & 1 == 1
 }
 
-// Whether a mask that is not empty has one position alone.
-pub fn is_single(m: u64) -> bool
-    requires { ⌜ 0 < m ⌝ }
-    ensures { λ r. ⌜ (r ≡ true → Single m) ⌝ }
+// What a mask has besides its lowest position.
+pub fn without_lowest(m: u64) -> u64
+    ensures { λ r. ⌜ r ≡ bitAnd m (m - 1) ⌝ }
 {
-    m & (m - 1) == 0
+    if m == 0 {
+        return 0;
+    }
+    m & (m - 1)
 }
 
 // The highest position of a mask that is not empty.

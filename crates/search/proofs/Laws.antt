@@ -4,6 +4,8 @@ pub mod Pass
 pub mod Smaller
 pub mod Open
 pub mod First
+pub mod Lower
+pub mod Count
 pub mod Picked
 pub mod Position
 pub mod Union

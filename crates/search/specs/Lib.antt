@@ -1,3 +1,4 @@
 pub mod Clause
 pub mod Search
 pub mod Picked
+pub mod Count

@@ -1,6 +1,6 @@
--- What the search keeps and finds: two bounds, and the first mask with a property. A mask's positions, read from the
+-- What the search keeps and finds: two bounds, any mask with a property, and the first. A mask's positions, read from the
 -- highest, are the literals in ascending order, so of two masks the first, absent before present, is the smaller number.
--- In order: masks between two bounds; bounds narrowed, once and until nothing changes; the first mask with a property.
+-- In order: masks between two bounds; bounds narrowed, once and until nothing changes; any mask with a property, and the first.
 -- Assumes nothing.
 use Prim.Native.Nat.{ℕ, _≤_}
 use mathlib.Core.Path.{_≡_}
@@ -32,6 +32,11 @@ pub record Narrowed (P : ℕ → Type 0) (must may : ℕ) (r : Bounds) : Type 0 
 pub record Propagated (P : ℕ → Type 0) (must may : ℕ) (r : Bounds) : Type 0 where
   pub kept : Kept P must may r
   pub leaf : r .live ≡ true → r .must ≡ r .may → P (r .must)
+
+-- r is a mask with P, or there is none
+pub record Any (P : ℕ → Type 0) (r : Found) : Type 0 where
+  pub passes : r .found ≡ true → P (r .model)
+  pub none : r .found ≡ false → (x : ℕ) → P x → ⊥
 
 -- r is the smallest mask with P, or there is none
 pub record First (P : ℕ → Type 0) (r : Found) : Type 0 where

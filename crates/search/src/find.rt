@@ -1,19 +1,21 @@
-// The first smaller model. `settle` and `try_open` call each other: each try leaves fewer literals open.
+// The first smaller model. `settle` and `try_open` call each other: each try leaves fewer literals open. They find any model,
+// in the order that is fastest; `lower` goes from that to the first.
 
 use crate::Found;
 use crate::narrow::propagate;
+use crate::pick::pick;
 use mask::highest;
 ghost use mathlib.Core.Path.{_≡_};
 ghost use Prim.Native.Nat.{_≤_};
 ghost use lib.ListN.{length};
 ghost use Rattle.mask.specs.Mask.{Within};
 ghost use Rattle.search.specs.Clause.{Model, Smaller};
-ghost use Rattle.search.specs.Search.{Candidate, First};
+ghost use Rattle.search.specs.Search.{Candidate, Any, First};
 
 // Settles what the clauses force, then tries what they leave open.
 fn settle(bodies: &[u64], heads: &[u64], count: usize, whole: u64, must: u64, may: u64) -> Found
     requires { ⌜ (count ≤ length (now bodies)) × (count ≤ length (now heads)) × Within must may ⌝ }
-    ensures { λ r. ⌜ First (Candidate (Model whole (now (bodies .entry)) (now (heads .entry)) count) must may) r ⌝ }
+    ensures { λ r. ⌜ Any (Candidate (Model whole (now (bodies .entry)) (now (heads .entry)) count) must may) r ⌝ }
 {
     let left = propagate(bodies, heads, count, whole, must, may);
     if !left.live {
@@ -25,10 +27,10 @@ fn settle(bodies: &[u64], heads: &[u64], count: usize, whole: u64, must: u64, ma
     try_open(bodies, heads, count, whole, left.must, left.may)
 }
 
-// Tries the first open literal, absent before present. Where none is open, the one mask between the bounds is a model.
+// Tries an open literal, absent before present. Where none is open, the one mask between the bounds is a model.
 fn try_open(bodies: &[u64], heads: &[u64], count: usize, whole: u64, must: u64, may: u64) -> Found
     requires { ⌜ (count ≤ length (now bodies)) × (count ≤ length (now heads)) × Within must may × (must ≡ may → Model whole (now bodies) (now heads) count must) ⌝ }
-    ensures { λ r. ⌜ First (Candidate (Model whole (now (bodies .entry)) (now (heads .entry)) count) must may) r ⌝ }
+    ensures { λ r. ⌜ Any (Candidate (Model whole (now (bodies .entry)) (now (heads .entry)) count) must may) r ⌝ }
 {
     if must == may {
         return Found {
@@ -36,7 +38,7 @@ fn try_open(bodies: &[u64], heads: &[u64], count: usize, whole: u64, must: u64, 
             model: must,
         };
     }
-    let open = highest(may ^ must);
+    let open = pick(bodies, heads, count, must, may);
     let absent = settle(bodies, heads, count, whole, must, may ^ open);
     if absent.found {
         return absent;
@@ -44,10 +46,43 @@ fn try_open(bodies: &[u64], heads: &[u64], count: usize, whole: u64, must: u64, 
     settle(bodies, heads, count, whole, must | open, may)
 }
 
+// From any smaller model to the first: of the positions from the highest, each is absent if a model does without it and with
+// what is settled before. The model at hand often does; else the search is asked for one.
+fn lower(bodies: &[u64], heads: &[u64], count: usize, whole: u64, some: u64) -> Found
+    requires { ⌜ (count ≤ length (now bodies)) × (count ≤ length (now heads)) × Candidate (Model whole (now bodies) (now heads) count) 0 whole some ⌝ }
+    ensures { λ r. ⌜ First (Candidate (Model whole (now (bodies .entry)) (now (heads .entry)) count) 0 whole) r ⌝ }
+{
+    let mut model = some;
+    let mut must: u64 = 0;
+    let mut may = whole;
+    while must != may {
+        let open = highest(may ^ must);
+        if model & open == 0 {
+            may = may ^ open;
+        } else {
+            let other = settle(bodies, heads, count, whole, must, may ^ open);
+            if other.found {
+                model = other.model;
+                may = may ^ open;
+            } else {
+                must = must | open;
+            }
+        }
+    }
+    Found {
+        found: true,
+        model: must,
+    }
+}
+
 // The first part of a set, not all of it, in which each of the first `count` clauses holds.
 pub fn find_smaller(bodies: &[u64], heads: &[u64], count: usize, set: u64) -> Found
     requires { ⌜ (count ≤ length (now bodies)) × (count ≤ length (now heads)) ⌝ }
     ensures { λ r. ⌜ First (Smaller set (now (bodies .entry)) (now (heads .entry)) count) r ⌝ }
 {
-    settle(bodies, heads, count, set, 0, set)
+    let any = settle(bodies, heads, count, set, 0, set);
+    if !any.found {
+        return any;
+    }
+    lower(bodies, heads, count, set, any.model)
 }

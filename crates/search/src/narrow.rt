@@ -1,7 +1,7 @@
 // What the clauses force on two bounds.
 
 use crate::Bounds;
-use mask::is_single;
+use mask::without_lowest;
 ghost use Prim.Native.Nat.{_≤_};
 ghost use lib.ListN.{length};
 ghost use Rattle.mask.specs.Mask.{Within};
@@ -20,34 +20,33 @@ fn force(body: u64, head: u64, must: u64, may: u64) -> Bounds
         may,
     };
     let met = (body ^ (body & may)) | (head & must);
-    if met != 0 {
-        return same;
-    }
     let needed = body ^ (body & must);
     let left = head & may;
-    let open = needed | left;
-    if open == 0 {
+    let last = needed | left;
+    // One test for both: it goes the same way for nearly every clause.
+    if met | without_lowest(last) != 0 {
+        return same;
+    }
+    if last == 0 {
         return Bounds {
             live: false,
             must,
             may,
         };
     }
-    if is_single(open) {
-        if needed == 0 {
-            return Bounds {
-                live: true,
-                must: must | left,
-                may,
-            };
-        }
-        if left == 0 {
-            return Bounds {
-                live: true,
-                must,
-                may: may ^ needed,
-            };
-        }
+    if needed == 0 {
+        return Bounds {
+            live: true,
+            must: must | last,
+            may,
+        };
+    }
+    if left == 0 {
+        return Bounds {
+            live: true,
+            must,
+            may: may ^ last,
+        };
     }
     same
 }

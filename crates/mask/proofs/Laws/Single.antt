@@ -47,19 +47,19 @@ one-step m ih p e x n = go (odd-or-even m p)
     go (inl o) = odd-step m x p o e n
     go (inr o) = even-step m x p (o .0) (o .1) (λ a b. ih (o .1) a (x / 2) b) e n
 
--- a mask that is not empty and has no position in common with the number one below has one position
-pub apart-single : (m : ℕ) → 0 < m → Apart m (m - 1) → Single m
-apart-single m p e = record { whole = bin-ind OneOf (λ q. absurd (omega arith)) one-step m p e }
+-- a mask that has no position in common with the number one below has one position at most
+pub apart-single : (m : ℕ) → Apart m (m - 1) → Single m
+apart-single zero e = record { whole = λ x n. refl }
+apart-single (suc m) e = record { whole = bin-ind OneOf (λ q. absurd (omega arith)) one-step (suc m) (zero-lt-suc m) e }
 
 pub pow-single : (j : ℕ) → Single (2 ^ j)
-pow-single j = apart-single (2 ^ j) (pow-pos j) (and-mask (2 ^ j) j ∙ mod-self (2 ^ j))
+pow-single j = apart-single (2 ^ j) (and-mask (2 ^ j) j ∙ mod-self (2 ^ j))
 
 -- the highest digit of a number is its highest position
 pub pow-highest : (m j : ℕ) → 2 ^ j ≤ m → m < 2 ^ suc j → Highest m (2 ^ j)
 pow-highest m j l h =
     record {
-      within = pow-single j .whole m meets;
-      single = pow-single j;
+      position = record { within = pow-single j .whole m meets; single = pow-single j; some = pow-pos j };
       above = subst (λ (x : ℕ). m < x) (pow-suc 2 j) h;
     }
   where

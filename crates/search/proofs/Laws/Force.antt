@@ -1,13 +1,14 @@
--- What one clause forces on two bounds, by cases: it holds whatever is open; nothing is open; the last open head literal; the
--- last open body literal; more is open.
+-- What one clause forces on two bounds, by cases: it holds whatever is open, or two literals are open; nothing is open; the
+-- last open head literal; the last open body literal; one literal is open in body and head alike.
 -- Assumes nothing.
-use Prim.Native.Nat.{ℕ}
+use Prim.Native.Nat.{ℕ, _-_}
 use mathlib.Core.Path.{_≡_, refl, sym, ap, ap₂, subst, _∙_}
 use mathlib.Core.Bool.{true, false}
 use mathlib.Core.Logic.{⊎-elim}
 use lib.Bits.{bitAnd, bitOr, bitXor, or-zero-r}
 use Rattle.mask.specs.Mask.{Within, Apart, rest, Single}
 use Rattle.mask.proofs.Laws.Part.{within-refl, within-trans, within-or-left, or-within, and-within-right, xor-within, within-xor, or-none, apart-or-not}
+use Rattle.mask.proofs.Laws.Single.{apart-single}
 use Rattle.mask.proofs.Laws.Rest.{rest-none, none-rest, rest-within, rest-apart, within-rest, apart-by}
 use Rattle.search.specs.Clause.{Holds}
 use Rattle.search.specs.Search.{Between, Narrowed}
@@ -25,21 +26,36 @@ module _ (body head must may : ℕ) where
   fails : (x : ℕ) → Between must may x → Within needed x → Apart left x → Holds body head x → ⊥
   fails x b p q h = h (within-rest body must x (b .above) p) (apart-by head may x (b .below) q)
 
-  -- the body may not be present, or a head literal is
-  pub met : (bitOr (rest body may) (bitAnd head must) ≡ 0 → ⊥) → Narrowed (Holds body head) must may (record { live = true; must = must; may = may })
-  met n = unchanged (λ e w a. n (ap₂ bitOr (none-rest body may (subst (Within body) e w)) a))
+  -- the one test: the body may not be present, or a head literal is, or w, what is open besides the lowest open literal, is some
+  module _ {w : ℕ} (b : w ≡ bitAnd (bitOr needed left) (bitOr needed left - 1)) where
+    pub met-or-more : (bitOr (bitOr (rest body may) (bitAnd head must)) w ≡ 0 → ⊥)
+        → Narrowed (Holds body head) must may (record { live = true; must = must; may = may })
+    met-or-more n = unchanged none
+      where
+        none : must ≡ may → Holds body head must
+        none e p a =
+            n (ap₂ bitOr (ap₂ bitOr (none-rest body may (subst (Within body) e p)) a)
+            (b ∙ ap (λ (z : ℕ). bitAnd z (z - 1)) (ap₂ bitOr (none-rest body must p) (subst (Apart head) e a))))
+
+    pub one-open : bitOr (bitOr (rest body may) (bitAnd head must)) w ≡ 0 → (bitOr (rest body may) (bitAnd head must) ≡ 0) × Single (bitOr needed left)
+    one-open e =
+        let p = or-none (bitOr (rest body may) (bitAnd head must)) w e in
+        (p .0, apart-single (bitOr needed left) (sym b ∙ p .1))
 
   module _ (n : bitOr needed left ≡ 0 → ⊥) where
     -- where no more is open than one mask leaves, the clause does not fail in it
     last-holds : must ≡ may → Holds body head must
     last-holds e w a = n (ap₂ bitOr (none-rest body must w) (subst (Apart head) e a))
 
-    pub more-open : Narrowed (Holds body head) must may (record { live = true; must = must; may = may })
-    more-open = unchanged last-holds
+    -- one literal is open in body and head alike: the clause holds with it and without it
+    pub same-open : Narrowed (Holds body head) must may (record { live = true; must = must; may = may })
+    same-open = unchanged last-holds
 
     -- one head literal is open and the body present: the literal must be
-    pub last-head : Single (bitOr needed left) → needed ≡ 0 → Narrowed (Holds body head) must may (record { live = true; must = bitOr must left; may = may })
+    pub last-head : Single (bitOr needed left) → needed ≡ 0
+        → Narrowed (Holds body head) must may (record { live = true; must = bitOr must (bitOr needed left); may = may })
     last-head s e =
+        subst (λ (z : ℕ). Narrowed (Holds body head) must may (record { live = true; must = bitOr must (bitOr z left); may = may })) (sym e)
         record {
           kept = record {
             more = within-or-left must left;
@@ -63,8 +79,9 @@ module _ (body head must may : ℕ) where
 
     -- one body literal is open and no head literal is left: the body literal may not be
     pub last-body : bitOr (rest body may) (bitAnd head must) ≡ 0 → Single (bitOr needed left) → left ≡ 0
-        → Narrowed (Holds body head) must may (record { live = true; must = must; may = bitXor may needed })
+        → Narrowed (Holds body head) must may (record { live = true; must = must; may = bitXor may (bitOr needed left) })
     last-body k s e =
+        subst (λ (z : ℕ). Narrowed (Holds body head) must may (record { live = true; must = must; may = bitXor may z })) (sym same)
         record {
           kept = record {
             more = within-refl must;
@@ -79,8 +96,11 @@ module _ (body head must may : ℕ) where
         within : Within needed may
         within = within-trans needed body may (rest-within body must) (rest-none body may (or-none (rest body may) (bitAnd head must) k .0))
 
+        same : bitOr needed left ≡ needed
+        same = ap (bitOr needed) e ∙ or-zero-r needed
+
         single : Single needed
-        single = subst Single (ap (bitOr needed) e ∙ or-zero-r needed) s
+        single = subst Single same s
 
         forced : (x : ℕ) → Between must may x → Holds body head x → Between must (bitXor may needed) x
         forced x b h =

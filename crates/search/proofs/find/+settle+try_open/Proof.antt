@@ -12,14 +12,14 @@ use denote.Ref.{now}
 use Rattle.search.specs.Clause.{Model}
 use Rattle.search.proofs.Laws.Narrow.{open-count, fewer-open}
 use Rattle.search.proofs.Laws.Open.{open-some, tries-inside, tries-less}
-use Rattle.search.proofs.Laws.First.{first-dead, first-left, first-leaf, first-absent, first-present}
+use Rattle.search.proofs.Laws.First.{any-dead, any-left, any-absent, any-present, first-leaf, first-any}
 use Rattle.search.proofs.find.settle.Reads as settle
 use Rattle.search.proofs.find.settle.Kinds as settle-kinds
 use Rattle.search.proofs.find.+settle+try_open.Lts-settle as settle-lts
 use Rattle.search.proofs.find.try_open.Reads as try-open
 use Rattle.search.proofs.find.try_open.Kinds as try-open-kinds
 use Rattle.search.proofs.find.+settle+try_open.Lts-try_open as try-open-lts
-use Rattle.mask.proofs.highest.Reads as highest-reads
+use Rattle.search.proofs.pick.pick.Reads as pick-reads
 use Rattle.search.proofs.narrow.propagate.Reads as propagate-reads
 use Rattle.search.proofs.find.+settle+try_open.{statement}
 use Rattle.search.proofs.find.+settle+try_open.Tie.{close}
@@ -57,7 +57,7 @@ settle-returns : (t : ℕ) → settle-lts.Need-returns (
   try-open-below t,
   try-open.Post,
 ) (settle-at t) settle.Post
-settle-returns t c = first-dead (c .before .before .propagate .ensures) (not-true _ (c .if1 .taken))
+settle-returns t c = any-dead (c .before .before .propagate .ensures) (not-true _ (c .if1 .taken))
 
 settle-try-open-requires : (t : ℕ) → settle-lts.Need-try-open-requires (
   propagate-reads.Asked,
@@ -79,80 +79,80 @@ settle-returns-2 : (t : ℕ) → settle-lts.Need-returns-2 (
   try-open-below t,
   try-open.Post,
 ) (settle-at t) settle.Post
-settle-returns-2 t c = first-left (c .before .before .before .propagate .ensures) (c .try-open .ensures)
+settle-returns-2 t c = any-left (c .before .before .before .propagate .ensures) (c .try-open .ensures)
 
 try-open-returns : (t : ℕ) → try-open-lts.Need-returns (
-  highest-reads.Asked,
-  highest-reads.Learnt,
+  pick-reads.Asked,
+  pick-reads.Learnt,
   settle-below t,
   settle.Post,
 ) (try-open-at t) try-open.Post
-try-open-returns t c = first-leaf (c .if1 .taken) (c .before .before .before .pre .1 .3 (c .if1 .taken))
+try-open-returns t c = first-any (first-leaf (c .if1 .taken) (c .before .before .before .pre .1 .3 (c .if1 .taken)))
 
-try-open-highest-requires : (t : ℕ) → try-open-lts.Need-highest-requires (
-  highest-reads.Asked,
-  highest-reads.Learnt,
+try-open-pick-requires : (t : ℕ) → try-open-lts.Need-pick-requires (
+  pick-reads.Asked,
+  pick-reads.Learnt,
   settle-below t,
   settle.Post,
 ) (try-open-at t) try-open.Post
-try-open-highest-requires t c κs =
+try-open-pick-requires t c κs =
     let start = c .before .before .before in
-    open-some (start .args .must) (start .args .may) (start .pre .1 .2) (c .if1 .left)
+    (start .pre .1 .0, start .pre .1 .1, open-some (start .args .must) (start .args .may) (start .pre .1 .2) (c .if1 .left))
 
 try-open-settle-requires : (t : ℕ) → try-open-lts.Need-settle-requires (
-  highest-reads.Asked,
-  highest-reads.Learnt,
+  pick-reads.Asked,
+  pick-reads.Learnt,
   settle-below t,
   settle.Post,
 ) (try-open-at t) try-open.Post
 try-open-settle-requires t c κs =
-    let at-highest = c in
-    let start = at-highest .before .before .before .before in
+    let at-pick = c in
+    let start = at-pick .before .before .before .before in
     let a = start .args in
-    let less = tries-less (a .must) (a .may) _ (start .pre .1 .2) (at-highest .highest .ensures) in
-    let inside = tries-inside (a .must) (a .may) _ (start .pre .1 .2) (at-highest .highest .ensures) in
+    let less = tries-less (a .must) (a .may) _ (start .pre .1 .2) (at-pick .pick .ensures) in
+    let inside = tries-inside (a .must) (a .may) _ (start .pre .1 .2) (at-pick .pick .ensures) in
     (omega (arith, less, start .pre .0), (start .pre .1 .0, start .pre .1 .1, search needs))
 
 try-open-returns-2 : (t : ℕ) → try-open-lts.Need-returns-2 (
-  highest-reads.Asked,
-  highest-reads.Learnt,
+  pick-reads.Asked,
+  pick-reads.Learnt,
   settle-below t,
   settle.Post,
 ) (try-open-at t) try-open.Post
 try-open-returns-2 t c =
     let at-absent = c .before in
-    let at-highest = at-absent .before in
-    let start = at-highest .before .before .before .before in
+    let at-pick = at-absent .before in
+    let start = at-pick .before .before .before .before in
     let a = start .args in
-    first-absent {P = Model (a .whole) (now (a .bodies)) (now (a .heads)) (a .count)} (start .pre .1 .2) (at-highest .highest .ensures) (c .if2 .taken) (at-absent .settle .ensures)
+    any-absent {P = Model (a .whole) (now (a .bodies)) (now (a .heads)) (a .count)} (start .pre .1 .2) (at-pick .pick .ensures) (c .if2 .taken) (at-absent .settle .ensures)
 
 try-open-settle-requires-2 : (t : ℕ) → try-open-lts.Need-settle-requires-2 (
-  highest-reads.Asked,
-  highest-reads.Learnt,
+  pick-reads.Asked,
+  pick-reads.Learnt,
   settle-below t,
   settle.Post,
 ) (try-open-at t) try-open.Post
 try-open-settle-requires-2 t c κs =
-    let at-highest = c .before .before in
-    let start = at-highest .before .before .before .before in
+    let at-pick = c .before .before in
+    let start = at-pick .before .before .before .before in
     let a = start .args in
-    let less = tries-less (a .must) (a .may) _ (start .pre .1 .2) (at-highest .highest .ensures) in
-    let inside = tries-inside (a .must) (a .may) _ (start .pre .1 .2) (at-highest .highest .ensures) in
+    let less = tries-less (a .must) (a .may) _ (start .pre .1 .2) (at-pick .pick .ensures) in
+    let inside = tries-inside (a .must) (a .may) _ (start .pre .1 .2) (at-pick .pick .ensures) in
     (omega (arith, less, start .pre .0), (start .pre .1 .0, start .pre .1 .1, search needs))
 
 try-open-returns-3 : (t : ℕ) → try-open-lts.Need-returns-3 (
-  highest-reads.Asked,
-  highest-reads.Learnt,
+  pick-reads.Asked,
+  pick-reads.Learnt,
   settle-below t,
   settle.Post,
 ) (try-open-at t) try-open.Post
 try-open-returns-3 t c =
     let at-none = c .before in
     let at-absent = at-none .before in
-    let at-highest = at-absent .before in
-    let start = at-highest .before .before .before .before in
+    let at-pick = at-absent .before in
+    let start = at-pick .before .before .before .before in
     let a = start .args in
-    first-present {P = Model (a .whole) (now (a .bodies)) (now (a .heads)) (a .count)} (start .pre .1 .2) (at-highest .highest .ensures) (at-none .if2 .left) (at-absent .settle .ensures)
+    any-present {P = Model (a .whole) (now (a .bodies)) (now (a .heads)) (a .count)} (start .pre .1 .2) (at-pick .pick .ensures) (at-none .if2 .left) (at-absent .settle .ensures)
     (c .settle2 .ensures)
 
 pub +settle+try-open-spec : {M : Type 1} → statement M
@@ -169,11 +169,11 @@ pub +settle+try-open-spec : {M : Type 1} → statement M
     (settle-try-open-requires t)
     (settle-returns-2 t))
     λ t. try-open-lts.spec
-    (highest-reads.Asked, highest-reads.Learnt, settle-below t, settle.Post)
+    (pick-reads.Asked, pick-reads.Learnt, settle-below t, settle.Post)
     (try-open-at t)
     try-open.Post
     (try-open-returns t)
-    (try-open-highest-requires t)
+    (try-open-pick-requires t)
     (try-open-settle-requires t)
     (try-open-returns-2 t)
     (try-open-settle-requires-2 t)

@@ -2,7 +2,11 @@
 -- it that is not all of it.
 -- Assumes nothing.
 use borrow.Author.Needs.{needs}
+use borrow.Author.Tests.{not-true, not-false}
 use denote.Ref.{now}
+use Rattle.search.specs.Clause.{Model}
+use Rattle.search.specs.Search.{Candidate}
+use Rattle.search.proofs.Laws.First.{first-none}
 use Rattle.search.proofs.Laws.Smaller.{first-smaller}
 use Rattle.search.proofs.find.find_smaller.Statement.{statement}
 use Rattle.search.proofs.find.find_smaller.Tie as tie
@@ -12,8 +16,20 @@ settle-requires c κs = search needs
 
 returns : tie.Need-returns
 returns c =
-    let a = c .before .before .before .args in
-    first-smaller (a .set) (now (a .bodies)) (now (a .heads)) (a .count) (c .settle .ensures)
+    let at-settle = c .before .before in
+    let a = at-settle .before .before .before .args in
+    first-smaller (a .set) (now (a .bodies)) (now (a .heads)) (a .count) (first-none {P = Candidate (Model (a .set) (now (a .bodies)) (now (a .heads)) (a .count)) 0 (a .set)} (not-true _ (c .if1 .taken)) (at-settle .settle .ensures))
+
+lower-requires : tie.Need-lower-requires
+lower-requires c κs =
+    let at-settle = c .before .before in
+    let start = at-settle .before .before .before in
+    (start .pre .0, start .pre .1, at-settle .settle .ensures .passes (not-false _ (c .if1 .left)))
+
+returns-2 : tie.Need-returns-2
+returns-2 c =
+    let a = c .before .before .before .before .before .before .args in
+    first-smaller (a .set) (now (a .bodies)) (now (a .heads)) (a .count) (c .lower .ensures)
 
 pub find-smaller-spec : {M : Type 1} → statement M
-find-smaller-spec = tie.close (tie.spec settle-requires returns)
+find-smaller-spec = tie.close (tie.spec settle-requires returns lower-requires returns-2)
