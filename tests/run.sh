@@ -1,6 +1,6 @@
 #!/bin/sh
-# Everything that runs: the reference's self-test, the vectors, the runner against the library.
-# Needs python3, rustc, a C compiler, target/staticlib/libaspda.a (rt staticlib aspda) and target/bin/filter
+# Everything that runs: the reference's self-test, the vectors, the runner against the library, the crate, the command, the
+# worked examples. Needs python3, rustc, cargo, a C compiler, clingo, target/staticlib/libaspda.a (rt staticlib aspda) and target/bin/filter
 # (rt check filter).
 
 # The operations that the library exports; add an operation when it is exported. Of these: read show
@@ -59,4 +59,10 @@ python3 tests/solver/examples.py --check
 say "linking from C"
 cc -std=c11 -Wall -Wextra -Werror -o "$build/link" tests/link.c -L "$LIBRARY" -laspda
 "$build/link"
+
+say "the Rust crate, the command, the C example"
+LIBRARY=$LIBRARY bash tests/wrappers.sh
+
+say "worked examples from text to a solver and back"
+sh tests/endtoend/run.sh
 say "all passed"

@@ -1,0 +1,16 @@
+#!/usr/bin/env bash
+# aspda.sh ARGUMENTS: runs the command `aspda` with these arguments, from any directory; `aspda.sh --help` lists them.
+# It builds the library and the command first where they are not there yet.
+set -euo pipefail
+root=$(cd "$(dirname "$(readlink -f "${BASH_SOURCE[0]}")")" && pwd)
+
+if [ ! -f "$root/target/staticlib/libaspda.a" ]; then
+    echo "aspda.sh: building the library; everything is proved first, which takes some minutes" >&2
+    log=$(mktemp)
+    (cd "$root" && rt staticlib aspda) >"$log" 2>&1 || { cat "$log" >&2; rm -f "$log"; exit 1; }
+    rm -f "$log"
+fi
+
+ASPDA_LIB_DIR=$root/target/staticlib CARGO_TARGET_DIR=$root/target/rust \
+    cargo build --release --offline --quiet --manifest-path "$root/rust/Cargo.toml" >&2
+exec "$root/target/rust/release/aspda" "$@"

@@ -1,0 +1,315 @@
+//! Defeasible answer-set programs and their translation into plain disjunctive ones.
+//!
+//! Programs and sets are bytes, as document 01 lays them out: a program is its rules' records and an end record, a set
+//! is one `A:` record. There are two forms: a *source* has defeasible rules and defeat marks, a *plain* program has
+//! strict rules alone and every kind of mark. The functions are those of the static library, in which each is proved;
+//! they keep no state and allocate nothing. What writes a result writes it to the start of the slice that it is lent,
+//! hands back the written part, and leaves the bytes behind it as they were.
+//!
+//! | Operation | Functions | A buffer that always suffices |
+//! |---|---|---|
+//! | number of rules | [`read_source`], [`read_plain`] | |
+//! | a rule's record | [`show_source`], [`show_plain`] | |
+//! | translation | [`translate`] | [`translation_bound`] |
+//! | quotient by a set | [`quotient_source`], [`quotient_plain`] | [`quotient_bound`] |
+//! | extension of a source's set | [`extend`] | [`EXTENSION_BOUND`] |
+//! | restriction of a plain set | [`restrict`] | [`restriction_bound`] |
+//! | is it an answer set? | [`check_source`], [`check_plain`] | [`witness_bound`] |
+//!
+//! M3 of document 01: two choices, of which the first can defeat options of the second.
+//!
+//! ```
+//! let source = [
+//!     &b"D:\0\x01\x03\0\0\0\0\0\0\x01\0\0\0\0\x02\0\0\0\0\x03"[..], // tag 1: 1 or 2 or 3
+//!     b"D:\0\x02\x02\0\0\0\0\0\0\x04\0\0\0\0\x05",                  // tag 2: 4 or 5
+//!     b"S:\0\0\x01\x01\0\x02\0\x02\0\x04\0\0\0\0\x01",              // defeated (2, 4) if 1
+//!     b"S:\0\0\x01\x01\0\x02\0\x02\0\x05\0\0\0\0\x01",              // defeated (2, 5) if 1
+//!     b"S:\0\0\x01\x01\0\x02\0\x02\0\x05\0\0\0\0\x02",              // defeated (2, 5) if 2
+//!     b"E:\0\x05",
+//! ]
+//! .concat();
+//! assert_eq!(source.len(), 94);
+//!
+//! let mut out = vec![0; aspda::translation_bound(&source)];
+//! let translation = aspda::translate(&source, &mut out)?;
+//! assert_eq!(translation.len(), 433);
+//! assert_eq!(aspda::read_plain(translation)?, 22);
+//!
+//! let set = b"A:\0\x02\0\0\0\0\x03\0\0\0\0\x05"; // {3, 5}
+//! let mut witness = [0; 14];
+//! assert_eq!(aspda::check_source(&source, set, &mut witness)?, aspda::Verdict::Yes);
+//! # Ok::<(), aspda::Refusal>(())
+//! ```
+#![deny(unsafe_code)]
+#![warn(missing_docs)]
+
+#[allow(unsafe_code)]
+mod exports;
+mod refusal;
+mod verdict;
+
+pub use refusal::Refusal;
+pub use verdict::Verdict;
+
+/// What every refusal's word has: 2^63.
+const REFUSED: u64 = 1 << 63;
+
+/// The high and the low 32 bits of a word, or the refusal that it is.
+fn halves(word: u64) -> Result<(u32, u32), Refusal> {
+    let (high, low) = ((word >> 32) as u32, word as u32);
+    if word & REFUSED == 0 {
+        Ok((high, low))
+    } else {
+        Err(Refusal { number: high as u8, place: low })
+    }
+}
+
+/// The part of `out` that was written: the word gives its length.
+fn written(word: u64, out: &mut [u8]) -> Result<&mut [u8], Refusal> {
+    let (_, length) = halves(word)?;
+    Ok(&mut out[..length as usize])
+}
+
+/// The part of the program where a record lies: the word gives its start and length.
+fn shown(word: u64, program: &[u8]) -> Result<&[u8], Refusal> {
+    let (start, length) = halves(word)?;
+    Ok(&program[start as usize..][..length as usize])
+}
+
+/// The number of rules of a source.
+///
+/// ```
+/// let m1 = b"D:\0\x07\x01\0\0\0\0\0\0\x01E:\0\x01"; // tag 7: 1
+/// assert_eq!(aspda::read_source(m1), Ok(1));
+/// assert_eq!(aspda::read_source(b"X:"), Err(aspda::Refusal { number: 3, place: 0 }));
+/// ```
+///
+/// # Errors
+/// Refusals 1 to 8.
+pub fn read_source(program: &[u8]) -> Result<u32, Refusal> {
+    halves(exports::read_source(program)).map(|(_, rules)| rules)
+}
+
+/// The number of rules of a plain program.
+///
+/// ```
+/// assert_eq!(aspda::read_plain(b"E:\0\0"), Ok(0));
+/// // A plain program has no defeasible rule.
+/// assert_eq!(aspda::read_plain(b"D:\0\x07\x01\0\0\0\0\0\0\x01E:\0\x01").unwrap_err().number, 3);
+/// ```
+///
+/// # Errors
+/// Refusals 1 to 6 and 8.
+pub fn read_plain(program: &[u8]) -> Result<u32, Refusal> {
+    halves(exports::read_plain(program)).map(|(_, rules)| rules)
+}
+
+/// The length of a buffer that suffices for a source's translation: thirteen times the source's.
+pub fn translation_bound(source: &[u8]) -> usize {
+    source.len().saturating_mul(13)
+}
+
+/// Writes the translation of a source, a plain program. [`translation_bound`] gives a length that suffices.
+///
+/// M1 of document 01: one defeasible rule with one option becomes five plain rules.
+///
+/// ```
+/// let m1 = b"D:\0\x07\x01\0\0\0\0\0\0\x01E:\0\x01"; // tag 7: 1
+/// let mut out = [0xAA; 95];
+/// let translation = aspda::translate(m1, &mut out)?;
+/// assert_eq!(translation, [
+///     // derived (7, 1) unless rule-defeated 1
+///     &b"S:\0\0\x01\0\x01\x04\0\x07\0\x01\x06\0\0\0\x01"[..],
+///     // rule-defeated 1 if defeated (7, 1)
+///     b"S:\0\0\x01\x01\0\x06\0\0\0\x01\x02\0\x07\0\x01",
+///     // 1 if derived (7, 1)
+///     b"S:\0\0\x01\x01\0\0\0\0\0\x01\x04\0\x07\0\x01",
+///     // derived (7, 1) if 1 and not defeated (7, 1)
+///     b"S:\0\0\x01\x01\x01\x04\0\x07\0\x01\0\0\0\0\x01\x02\0\x07\0\x01",
+///     // never both derived (7, 1) and defeated (7, 1)
+///     b"S:\0\0\0\x02\0\x04\0\x07\0\x01\x02\0\x07\0\x01",
+///     b"E:\0\x05",
+/// ].concat());
+/// assert_eq!(out[94], 0xAA);
+///
+/// // 93 bytes are one too few.
+/// assert_eq!(aspda::translate(m1, &mut out[..93]).unwrap_err().number, 9);
+/// # Ok::<(), aspda::Refusal>(())
+/// ```
+///
+/// # Errors
+/// Refusals 1 to 9.
+pub fn translate<'o>(source: &[u8], out: &'o mut [u8]) -> Result<&'o mut [u8], Refusal> {
+    written(exports::translate(source, out), out)
+}
+
+/// The length of a buffer that suffices for a quotient: the program's.
+pub fn quotient_bound(program: &[u8]) -> usize {
+    program.len()
+}
+
+/// Writes the quotient of a source by a set, as a program of strict rules. [`quotient_bound`] gives a length that
+/// suffices.
+///
+/// ```
+/// let source = b"S:\0\0\x01\0\x01\0\0\0\0\x01\0\0\0\0\x02E:\0\x01"; // 1 if not 2
+/// let mut out = [0; 21];
+/// let empty = b"A:\0\0";
+/// assert_eq!(aspda::quotient_source(source, empty, &mut out)?, b"S:\0\0\x01\0\0\0\0\0\0\x01E:\0\x01"); // 1
+/// let two = b"A:\0\x01\0\0\0\0\x02";
+/// assert_eq!(aspda::quotient_source(source, two, &mut out)?, b"E:\0\0");
+/// # Ok::<(), aspda::Refusal>(())
+/// ```
+///
+/// # Errors
+/// Refusals 1 to 12; a refusal of the program comes before one of the set.
+pub fn quotient_source<'o>(program: &[u8], set: &[u8], out: &'o mut [u8]) -> Result<&'o mut [u8], Refusal> {
+    written(exports::quotient_source(program, set, out), out)
+}
+
+/// Writes the quotient of a plain program by a set of plain literals. [`quotient_bound`] gives a length that suffices.
+///
+/// ```
+/// let program = b"S:\0\0\x01\0\x01\0\0\0\0\x01\x06\0\0\0\x09E:\0\x01"; // 1 if not rule-defeated 9
+/// let set = b"A:\0\x01\x06\0\0\0\x09"; // {rule-defeated 9}
+/// let mut out = [0; 21];
+/// assert_eq!(aspda::quotient_plain(program, set, &mut out)?, b"E:\0\0");
+/// # Ok::<(), aspda::Refusal>(())
+/// ```
+///
+/// # Errors
+/// Refusals 1 to 6 and 8 to 12; a refusal of the program comes before one of the set.
+pub fn quotient_plain<'o>(program: &[u8], set: &[u8], out: &'o mut [u8]) -> Result<&'o mut [u8], Refusal> {
+    written(exports::quotient_plain(program, set, out), out)
+}
+
+/// The length of a buffer that suffices for every extension.
+pub const EXTENSION_BOUND: usize = 25_484;
+
+/// Writes the extension of a source's set: the set with its derivation and rule-defeated marks, a plain set.
+/// [`EXTENSION_BOUND`] bytes suffice. It uses more than 64 KiB of stack.
+///
+/// M5 of document 01: two rules share tag 7, and the first one's option is defeated.
+///
+/// ```
+/// let source = b"D:\0\x07\x01\0\0\0\0\0\0\x01D:\0\x07\x01\0\0\0\0\0\0\x02S:\0\0\x01\0\0\x02\0\x07\0\x01E:\0\x03";
+/// let set = b"A:\0\x02\0\0\0\0\x02\x02\0\x07\0\x01"; // {2, defeated (7, 1)}
+/// let mut out = [0; aspda::EXTENSION_BOUND];
+/// // It gains derived (7, 2) and rule-defeated 1.
+/// assert_eq!(
+///     aspda::extend(source, set, &mut out)?,
+///     b"A:\0\x04\0\0\0\0\x02\x02\0\x07\0\x01\x04\0\x07\0\x02\x06\0\0\0\x01"
+/// );
+/// # Ok::<(), aspda::Refusal>(())
+/// ```
+///
+/// # Errors
+/// Refusals 1 to 12; a refusal of the program comes before one of the set.
+pub fn extend<'o>(source: &[u8], set: &[u8], out: &'o mut [u8]) -> Result<&'o mut [u8], Refusal> {
+    written(exports::extend(source, set, out), out)
+}
+
+/// The length of a buffer that suffices for a set's restriction: the set's.
+pub fn restriction_bound(set: &[u8]) -> usize {
+    set.len()
+}
+
+/// Writes the restriction of a plain set: the set without its derivation and rule-defeated marks.
+/// [`restriction_bound`] gives a length that suffices.
+///
+/// ```
+/// let set = b"A:\0\x02\0\0\0\0\x01\x04\0\x07\0\x01"; // {1, derived (7, 1)}
+/// let mut out = vec![0; aspda::restriction_bound(set)];
+/// assert_eq!(aspda::restrict(set, &mut out)?, b"A:\0\x01\0\0\0\0\x01"); // {1}
+/// # Ok::<(), aspda::Refusal>(())
+/// ```
+///
+/// # Errors
+/// Refusals 9 to 12.
+pub fn restrict<'o>(set: &[u8], out: &'o mut [u8]) -> Result<&'o mut [u8], Refusal> {
+    written(exports::restrict(set, out), out)
+}
+
+/// The length that a check asks of its buffer, and that suffices: the set's.
+pub fn witness_bound(set: &[u8]) -> usize {
+    set.len()
+}
+
+/// Is the set an answer set of the source? `out` is at least as long as the set ([`witness_bound`]), whatever the
+/// verdict; only [`Verdict::Smaller`] writes to it.
+///
+/// A check uses about 216 KiB of stack: a thread with less, say 128 KiB, is too small for it.
+///
+/// M6 to M9 of document 01:
+///
+/// ```
+/// use aspda::{check_source, Verdict};
+/// let mut out = [0; 14];
+///
+/// let one_or_two = b"S:\0\0\x02\0\0\0\0\0\0\x01\0\0\0\0\x02E:\0\x01";
+/// let both = b"A:\0\x02\0\0\0\0\x01\0\0\0\0\x02"; // {1, 2}
+/// assert_eq!(check_source(one_or_two, both, &mut out)?, Verdict::Smaller(b"A:\0\x01\0\0\0\0\x02"));
+///
+/// let opposites = b"A:\0\x02\0\0\0\0\x01\x01\0\0\0\x01"; // {1, -1}
+/// assert_eq!(check_source(one_or_two, opposites, &mut out)?, Verdict::Clash(1));
+///
+/// let never = b"S:\0\0\0\0\0E:\0\x01"; // neither head nor body
+/// let empty = b"A:\0\0";
+/// assert_eq!(check_source(never, empty, &mut out)?, Verdict::Broken(1));
+///
+/// let no_rules = b"E:\0\0";
+/// assert_eq!(check_source(no_rules, empty, &mut out)?, Verdict::Yes);
+/// let one = b"A:\0\x01\0\0\0\0\x01"; // {1}
+/// assert_eq!(check_source(no_rules, one, &mut out)?, Verdict::Smaller(empty));
+/// # Ok::<(), aspda::Refusal>(())
+/// ```
+///
+/// # Errors
+/// Refusals 1 to 12; 12 for more than 64 literals. A refusal of the program comes before one of the set.
+pub fn check_source<'o>(program: &[u8], set: &[u8], out: &'o mut [u8]) -> Result<Verdict<'o>, Refusal> {
+    Verdict::from_word(exports::check_source(program, set, out), out)
+}
+
+/// Is the set, of plain literals, an answer set of the plain program? As [`check_source`], its stack too: about
+/// 216 KiB.
+///
+/// ```
+/// let program = b"S:\0\0\x01\0\0\x04\0\x07\0\x01E:\0\x01"; // derived (7, 1)
+/// let set = b"A:\0\x01\x04\0\x07\0\x01"; // {derived (7, 1)}
+/// let mut out = vec![0; aspda::witness_bound(set)];
+/// assert_eq!(aspda::check_plain(program, set, &mut out)?, aspda::Verdict::Yes);
+/// # Ok::<(), aspda::Refusal>(())
+/// ```
+///
+/// # Errors
+/// Refusals 1 to 6 and 8 to 12; 12 for more than 64 literals. A refusal of the program comes before one of the set.
+pub fn check_plain<'o>(program: &[u8], set: &[u8], out: &'o mut [u8]) -> Result<Verdict<'o>, Refusal> {
+    Verdict::from_word(exports::check_plain(program, set, out), out)
+}
+
+/// The record of a source's rule, a part of the program. Rules are numbered from 1.
+///
+/// ```
+/// let m1 = b"D:\0\x07\x01\0\0\0\0\0\0\x01E:\0\x01"; // tag 7: 1
+/// assert_eq!(aspda::show_source(m1, 1), Ok(&m1[..12]));
+/// assert_eq!(aspda::show_source(m1, 2).unwrap_err().number, 13);
+/// ```
+///
+/// # Errors
+/// Refusals 1 to 8 and 13.
+pub fn show_source(program: &[u8], rule: u32) -> Result<&[u8], Refusal> {
+    shown(exports::show_source(program, rule), program)
+}
+
+/// The record of a plain program's rule, a part of the program. Rules are numbered from 1.
+///
+/// ```
+/// let program = b"S:\0\0\0\0\0S:\0\0\x01\0\0\0\0\0\0\x01E:\0\x02";
+/// assert_eq!(aspda::show_plain(program, 2), Ok(&program[7..19]));
+/// ```
+///
+/// # Errors
+/// Refusals 1 to 6, 8 and 13.
+pub fn show_plain(program: &[u8], rule: u32) -> Result<&[u8], Refusal> {
+    shown(exports::show_plain(program, rule), program)
+}

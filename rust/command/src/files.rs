@@ -1,0 +1,138 @@
+//! Programs and sets from files or from the command line, and results into files.
+
+use crate::text::{self, Encoded, Names, Parsed};
+use aspda::Refusal;
+use std::ffi::OsStr;
+use std::fs;
+use std::path::Path;
+
+/// A program's bytes, with what its text gives beside them.
+pub struct Program {
+    /// What messages call it.
+    file: String,
+    pub bytes: Vec<u8>,
+    pub names: Names,
+    /// Of each rule that was written as text: where its record starts, and its line.
+    rules: Vec<(usize, usize)>,
+}
+
+/// A set's record.
+pub struct Set {
+    /// What messages call it.
+    file: String,
+    pub bytes: Vec<u8>,
+    /// Of a set that was written as text: the names that it could use.
+    names: Option<Names>,
+}
+
+/// A program or a set.
+pub enum Either {
+    Program(Program),
+    Set(Set),
+}
+
+/// What an operand's file or the operand itself holds.
+enum Content {
+    Text(String),
+    Bytes(Vec<u8>),
+}
+
+fn is_text(path: &Path) -> bool {
+    path.as_os_str().to_string_lossy().ends_with(".txt")
+}
+
+fn load(path: &OsStr) -> Result<Content, String> {
+    let bytes = fs::read(path).map_err(|error| format!("{}: {error}", path.to_string_lossy()))?;
+    Ok(if is_text(Path::new(path)) {
+        // Bytes that are no UTF-8 do no harm in comments, and mean nothing elsewhere.
+        Content::Text(String::from_utf8_lossy(&bytes).into_owned())
+    } else {
+        Content::Bytes(bytes)
+    })
+}
+
+/// As `load`, but an operand that starts with a brace is a set's text itself.
+fn load_or_take(operand: &OsStr) -> Result<Content, String> {
+    match operand.to_str() {
+        Some(text) if text.starts_with('{') => Ok(Content::Text(text.to_owned())),
+        _ => load(operand),
+    }
+}
+
+pub fn load_program(path: &OsStr) -> Result<Program, String> {
+    Program::new(path.to_string_lossy().into_owned(), load(path)?)
+}
+
+/// A set; names are those of the program that goes with it.
+pub fn load_set(operand: &OsStr, names: &Names) -> Result<Set, String> {
+    Set::new(operand.to_string_lossy().into_owned(), load_or_take(operand)?, names)
+}
+
+/// A program or a set, whichever the content is.
+pub fn load_either(operand: &OsStr) -> Result<Either, String> {
+    let file = operand.to_string_lossy().into_owned();
+    let content = load_or_take(operand)?;
+    let is_set = match &content {
+        Content::Text(text) => text::holds_set(text).map_err(|error| format!("{file}: {error}"))?,
+        Content::Bytes(bytes) => text::is_set_record(bytes),
+    };
+    if is_set {
+        return Set::new(file, content, &Names::default()).map(Either::Set);
+    }
+    Program::new(file, content).map(Either::Program)
+}
+
+/// Writes a result: as text if the file's name asks for that, else as bytes.
+pub fn save(path: &Path, bytes: &[u8], text: impl FnOnce() -> String) -> Result<(), String> {
+    let written = if is_text(path) { fs::write(path, text()) } else { fs::write(path, bytes) };
+    written.map_err(|error| format!("{}: {error}", path.display()))
+}
+
+impl Program {
+    fn new(file: String, content: Content) -> Result<Program, String> {
+        let text = match content {
+            Content::Bytes(bytes) => return Ok(Program { file, bytes, names: Names::default(), rules: Vec::new() }),
+            Content::Text(text) => text,
+        };
+        let Parsed { rules, lines, names } = text::parse_program(&text).map_err(|error| format!("{file}: {error}"))?;
+        let Encoded { bytes, starts } = text::encode_program(&rules);
+        Ok(Program { file, bytes, names, rules: starts.into_iter().zip(lines).collect() })
+    }
+
+    /// A refusal of this program in words; of a rule that was written as text with its number and line.
+    pub fn refused(&self, refusal: Refusal) -> String {
+        let rule = self.rules.iter().rposition(|(start, _)| *start <= refusal.place as usize);
+        match rule {
+            // The other numbers are not met in a rule's record, whatever their place.
+            Some(index) if (2..=7).contains(&refusal.number) => {
+                format!("{}: {refusal} (rule {}, line {})", self.file, index + 1, self.rules[index].1)
+            }
+            _ => format!("{}: {refusal}", self.file),
+        }
+    }
+}
+
+impl Set {
+    fn new(file: String, content: Content, names: &Names) -> Result<Set, String> {
+        let text = match content {
+            Content::Bytes(bytes) => return Ok(Set { file, bytes, names: None }),
+            Content::Text(text) => text,
+        };
+        let literals = text::parse_set(&text, names).map_err(|error| format!("{file}: {error}"))?;
+        match text::encode_set(&literals) {
+            Some(bytes) => Ok(Set { file, bytes, names: Some(names.clone()) }),
+            None => Err(format!("{file}: more literals than the two bytes of a set's count can say")),
+        }
+    }
+
+    /// A refusal of this set in words; of a literal that was written as text with that literal.
+    pub fn refused(&self, refusal: Refusal) -> String {
+        match &self.names {
+            Some(names) if refusal.number == 11 => {
+                let literal = text::decode_literal(&self.bytes[refusal.place as usize..]);
+                format!("{}: {refusal} ({})", self.file, text::list_literal(literal, names))
+            }
+            _ => format!("{}: {refusal}", self.file),
+        }
+    }
+}

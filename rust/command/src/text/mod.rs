@@ -1,0 +1,70 @@
+//! The text form of programs and sets, and the bytes that it stands for.
+//!
+//! The text form fixes layout alone: what a program or a set may hold is the library's to say. `parser` refuses only
+//! what has no bytes at all.
+
+mod encoder;
+mod lexer;
+mod listing;
+mod names;
+mod parser;
+#[cfg(test)]
+mod tests;
+
+pub use encoder::{decode_literal, decode_program, decode_rule, decode_set};
+pub use encoder::{encode_program, encode_set, is_set_record, Encoded};
+pub use listing::{list_literal, list_program, list_rule, list_set};
+pub use names::Names;
+pub use parser::{holds_set, parse_program, parse_set, Parsed};
+
+use std::fmt;
+
+/// An atom or its explicit negation.
+#[derive(Clone, Copy, Debug, PartialEq, Eq)]
+pub enum SignedAtom {
+    Atom(u16),
+    Negated(u16),
+}
+
+/// A literal; the marks' first number is their tag.
+#[derive(Clone, Copy, Debug, PartialEq, Eq)]
+pub enum Literal {
+    Signed(SignedAtom),
+    Defeated(u16, SignedAtom),
+    Derived(u16, SignedAtom),
+    /// With a rule's number.
+    RuleDefeated(u16),
+}
+
+/// A rule: strict, or defeasible with a tag.
+#[derive(Clone, Debug, Default, PartialEq, Eq)]
+pub struct Rule {
+    pub tag: Option<u16>,
+    pub heads: Vec<Literal>,
+    pub positives: Vec<Literal>,
+    pub nafs: Vec<Literal>,
+}
+
+/// Where something stands in a text, from 1.
+#[derive(Clone, Copy, Debug, PartialEq, Eq)]
+pub struct Place {
+    pub line: usize,
+    pub column: usize,
+}
+
+/// Why a text is no program or set.
+#[derive(Clone, Debug, PartialEq, Eq)]
+pub struct TextError {
+    pub place: Place,
+    pub message: String,
+}
+
+impl fmt::Display for TextError {
+    fn fmt(&self, f: &mut fmt::Formatter<'_>) -> fmt::Result {
+        write!(f, "line {}, column {}: {}", self.place.line, self.place.column, self.message)
+    }
+}
+
+fn error<T>(place: Place, message: impl Into<String>) -> Result<T, TextError> {
+    Err(TextError { place, message: message.into() })
+}

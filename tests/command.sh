@@ -1,0 +1,238 @@
+#!/usr/bin/env bash
+# The built command, end to end: every command with text and with bytes, M3 whole, each refusal, help, exit statuses.
+# The binary is $ASPDA, else target/rust/release/aspda (tests/wrappers.sh builds it).
+set -euo pipefail
+root=$(cd "$(dirname "${BASH_SOURCE[0]}")/.." && pwd)
+aspda=$(readlink -f "${ASPDA:-$root/target/rust/release/aspda}")
+work=$(mktemp -d)
+trap 'rm -rf "$work"' EXIT
+cp "$root"/examples/m[13].* "$work"
+cd "$work"
+
+runs=0
+declare -A reached=()
+
+fail() { # WHAT: with what the last run left
+    printf 'command.sh: %s\n' "$1" "standard output: $(cat .out)" "standard error: $(cat .err)" >&2
+    exit 1
+}
+
+run() { # STATUS ARGUMENTS
+    local wanted=$1 status=0
+    shift
+    runs=$((runs + 1))
+    "$aspda" "$@" >.out 2>.err || status=$?
+    [ "$status" = "$wanted" ] || fail "aspda $*: exit status $status, not $wanted"
+}
+
+prints() { # STATUS TEXT ARGUMENTS: TEXT and a line's end on standard output (nothing, if TEXT is empty), no message
+    local status=$1 text=$2
+    shift 2
+    run "$status" "$@"
+    [ "$(cat .out)" = "$text" ] && [ ! -s .err ] || fail "aspda $*: \"$text\" expected"
+}
+
+gives() { prints 0 "$@"; } # TEXT ARGUMENTS
+
+complains() { # TEXT ARGUMENTS: status 1, and TEXT as the only message
+    local text=$1
+    shift
+    run 1 "$@"
+    [ "$(cat .err)" = "aspda: $text" ] && [ ! -s .out ] || fail "aspda $*: \"$text\" expected"
+}
+
+refuses() { # NUMBER PLACE WHERE ARGUMENTS: WHERE is the file or set, and in brackets what ends the message
+    local number=$1 place=$2 file=${3%% (*} ending=
+    case $3 in *' ('*) ending=" (${3#* (}" ;; esac
+    shift 3
+    run 1 "$@"
+    local message="aspda: $file: refused with $number at byte $place: "
+    [[ "$(cat .err)" =~ ^"$message"[a-z][^\(]*"$ending"$ ]] && [ ! -s .out ] ||
+        fail "aspda $*: refusal $number at byte $place of $file$ending expected"
+    reached[$number]=1
+}
+
+same() { cmp "$1" "$2" || fail "$1 and $2 differ"; }
+
+# The examples: text, bytes and translation agree.
+for name in m1 m3; do
+    gives "" convert $name.txt -o made.aspda
+    same made.aspda $name.aspda
+    gives "" convert $name.aspda -o made.txt
+    gives "" convert made.txt -o again.aspda
+    same again.aspda $name.aspda
+    for source in $name.txt $name.aspda; do
+        gives "" translate $source -o made.plain
+        same made.plain $name.plain
+        gives "$(sed -n 's/^%     \(.*% rule .*\)/\1/p' $name.txt)" translate $source
+    done
+    gives "" translate $name.aspda -o plain.txt
+    gives "" convert --plain plain.txt -o made.plain
+    same made.plain $name.plain
+done
+gives "1 rule, 16 bytes" read m1.txt
+gives "5 rules, 94 bytes" read m3.aspda
+gives "22 rules, 433 bytes" read --plain m3.plain
+gives "22 rules, 433 bytes" read --plain plain.txt
+gives "tag 2: 4 or 5.  % rule 2, 17 bytes from byte 22" show m3.txt 2
+gives "tag 2: 4 or 5.  % rule 2, 17 bytes from byte 22" show m3.aspda 2
+gives "defeated(2, 5) if 2.  % rule 22, 17 bytes from byte 412" show --plain m3.plain 22
+
+# M3's answer sets as its file lists them, the source's and then the translation's: yes, and each other's extension.
+mapfile -t sets < <(sed -n 's/^%     \({.*\)/\1/p' m3.txt)
+[ ${#sets[@]} = 8 ] || fail "m3.txt lists ${#sets[@]} sets, not 8"
+for i in 0 1 2 3; do
+    gives "yes: the set is an answer set" check m3.txt "${sets[i]}"
+    gives "yes: the set is an answer set" check --plain m3.plain "${sets[i + 4]}"
+    gives "${sets[i + 4]}" extend m3.aspda "${sets[i]}"
+    gives "${sets[i]}" restrict "${sets[i + 4]}"
+done
+
+# Of all 128 sets over M3's literals exactly these four are answer sets.
+answer_sets=
+literals=(1 2 3 4 5 'defeated(2, 4)' 'defeated(2, 5)')
+for mask in {0..127}; do
+    set=
+    for i in "${!literals[@]}"; do
+        if ((mask >> i & 1)); then set="$set${set:+, }${literals[i]}"; fi
+    done
+    runs=$((runs + 1))
+    if "$aspda" check m3.aspda "{$set}" >.out 2>.err; then answer_sets="$answer_sets{$set}"$'\n'; fi
+    [ ! -s .err ] || fail "aspda check m3.aspda {$set}: a message"
+done
+[ "$(sort <<<"${answer_sets%?}")" = "$(printf '%s\n' "${sets[@]:0:4}" | sort)" ] || fail "answer sets: $answer_sets"
+
+# Sets as text and bytes; the other verdicts, in words and as a witness.
+echo '{defeated(2, 5), 4, 2, 4} % in any order, twice' >set.txt
+gives "" convert set.txt -o set.bytes
+printf 'A:\0\3\0\0\0\0\2\0\0\0\0\4\2\0\2\0\5' | cmp - set.bytes || fail "set.bytes differs"
+gives "" convert set.bytes -o listed.txt
+[ "$(cat listed.txt)" = "{2, 4, defeated(2, 5)}" ] || fail "listed.txt: $(cat listed.txt)"
+gives "yes: the set is an answer set" check m3.aspda set.bytes -o unwritten
+gives "" extend m3.txt set.bytes -o plain.set
+gives "yes: the set is an answer set" check --plain plain.txt plain.set
+gives "" restrict plain.set -o back.set
+same back.set set.bytes
+gives "" convert --plain '{derived(1, 2)}' -o derived.set
+gives "{}" restrict derived.set
+smaller="smaller: this proper subset is a model of the quotient too"
+prints 1 "$smaller"$'\n'"{3, 5}" check m3.txt '{3, 4, 5}' -o witness.txt
+[ "$(cat witness.txt)" = "{3, 5}" ] || fail "witness.txt: $(cat witness.txt)"
+echo '1 or 2.' >m6.txt
+prints 1 "$smaller"$'\n'"{2}" check m6.txt '{1, 2}' -o witness.set
+printf 'A:\0\1\0\0\0\0\2' | cmp - witness.set || fail "witness.set differs"
+prints 1 "clash: literal 1 of the set, 1, and its opposite are both in it" check m6.txt '{-1, 1}' -o unwritten
+echo 'never.' >m8.txt
+prints 1 "broken: what the quotient keeps of rule 1 does not hold in the set"$'\n'"never." check --plain m8.txt '{}'
+[ ! -e unwritten ] || fail "a verdict without witness wrote a file"
+
+# Quotients: of M3's translation, as text and as bytes; rules with defeated options.
+gives "1 or 2 or 3.  % rule 1
+5.  % rule 2
+defeated(2, 4) if 1.  % rule 3
+defeated(2, 5) if 1.  % rule 4
+defeated(2, 5) if 2.  % rule 5" quotient m3.txt '{defeated(2, 4)}'
+gives "" quotient --plain m3.plain "${sets[4]}" -o quotient.plain
+gives "" quotient --plain plain.txt "${sets[4]}" -o quotient.txt
+gives "" convert --plain quotient.txt -o again.plain
+same again.plain quotient.plain
+gives "yes: the set is an answer set" check --plain quotient.plain "${sets[4]}"
+
+# Names: in listings, in sets, declared again so that a listing stands alone.
+cat >kit.txt <<'KIT'
+% A mill's x axis: a servo, unless the shop has none left.
+atom 12 = servo_x. atom 13 = stepper_x. atom 20 = servos_left.
+tag 3 = drive_x.
+tag drive_x: servo_x or -stepper_x or 14
+    if not 30.
+defeated(drive_x, servo_x) if not servos_left.
+never if rule.
+KIT
+complains 'kit.txt: line 7, column 10: no atom is declared as `rule`' read kit.txt
+sed -i '$d' kit.txt
+gives "tag drive_x: servo_x or -stepper_x or 14 if not 30.  % rule 1, 27 bytes from byte 0" show kit.txt 1
+gives "{-stepper_x, defeated(drive_x, servo_x), derived(drive_x, -stepper_x)}" \
+    extend kit.txt '{-stepper_x, defeated(drive_x, servo_x)}'
+gives "atom 12 = servo_x.
+atom 13 = stepper_x.
+atom 20 = servos_left.
+tag 3 = drive_x.
+
+servo_x or -stepper_x or 14.  % rule 1
+defeated(drive_x, servo_x).  % rule 2" quotient kit.txt '{}'
+prints 1 "$smaller"$'\n'"{-stepper_x, defeated(drive_x, servo_x)}" \
+    check kit.txt '{-stepper_x, 14, defeated(drive_x, servo_x)}'
+gives "" translate kit.txt -o kit-plain.txt
+gives "" translate kit.txt -o kit.plain
+gives "" convert --plain kit-plain.txt -o again.plain
+same again.plain kit.plain
+
+# Each refusal by number and place, with rule and line where the program is text. 9 is a short buffer's, and the
+# command's are long enough: rust/aspda/tests/refusals.rs has it.
+head -c 63237 /dev/zero >long
+refuses 1 0 long read long
+refuses 1 0 long translate long -o unwritten
+printf '1.%.0s' {1..5300} >long.txt
+refuses 1 0 long.txt read long.txt
+: >empty
+refuses 2 0 empty read empty
+refuses 3 0 m3.aspda convert --plain m3.aspda -o unwritten
+refuses 3 0 "m3.txt (rule 1, line 4)" read --plain m3.txt
+printf '1.\n%% two\n\n1 or%s 1.\n' "$(printf ' 1 or%.0s' {1..15})" >heads.txt
+refuses 4 12 "heads.txt (rule 2, line 4)" translate heads.txt -o unwritten
+printf '1.%.0s\n' {1..257} >rules.txt
+refuses 4 3072 "rules.txt (rule 257, line 257)" read rules.txt
+gives "257 rules, 3088 bytes" read --plain rules.txt
+printf '1. 2\nor 501.\n' >literal.txt
+refuses 5 24 "literal.txt (rule 2, line 1)" quotient literal.txt '{}'
+refuses 5 24 "literal.txt (rule 2, line 1)" extend literal.txt '{501}'
+echo 'tag 201: 1.' >tag.txt
+refuses 6 0 "tag.txt (rule 1, line 1)" show tag.txt 1
+printf '1.\ntag 1: never if 1.\n' >never.txt
+refuses 7 12 "never.txt (rule 2, line 2)" convert never.txt -o unwritten
+printf 'E:\0\1' >end
+refuses 8 0 end check end '{}'
+printf 'A:\0\1' >cut.set
+refuses 10 0 cut.set restrict cut.set
+refuses 10 0 cut.set convert cut.set -o unwritten
+refuses 11 9 "{1, 501} (501)" check m3.txt '{1, 501}'
+refuses 11 4 "{derived(1, 1)} (derived(1, 1))" convert '{derived(1, 1)}' -o unwritten
+printf 'A:\0\2\0\0\0\0\2\0\0\0\0\1' >order.set
+refuses 11 9 order.set extend m3.aspda order.set
+refuses 11 19 "{30, 14, -servo_x, derived(drive_x, servo_x)} (derived(drive_x, servo_x))" \
+    extend kit.txt '{30, 14, -servo_x, derived(drive_x, servo_x)}'
+echo "{$(seq -s , 65)}" >65.txt
+refuses 12 0 65.txt check --plain m3.plain 65.txt
+gives "" convert 65.txt -o 65.set
+refuses 13 0 m3.txt show m3.txt 6
+refuses 13 0 m3.plain show --plain m3.plain 0
+[ ! -e unwritten ] || fail "a refusal wrote a file"
+for number in {1..8} {10..13}; do
+    [ "${reached[$number]:-}" ] || fail "refusal $number was not reached"
+done
+
+# What is no text, no file, no usage.
+printf '1 or 2.\n3' >open.txt
+complains 'open.txt: line 2, column 2: `or`, `if` or `.` expected, and not the end of the text' read open.txt
+complains '{1 2}: line 1, column 4: `,` or `}` expected, and not 2' restrict '{1 2}'
+complains 'nowhere.txt: No such file or directory (os error 2)' read nowhere.txt
+complains 'nowhere/m1.plain: No such file or directory (os error 2)' translate m1.txt -o nowhere/m1.plain
+complains '`two` is no rule number' show m3.txt two
+complains 'no command given; see aspda --help'
+complains 'there is no command `solve`; see aspda --help' solve m3.txt
+complains 'PROGRAM and SET expected, 1 given; usage: aspda check [--plain] PROGRAM SET [-o FILE]' check m3.txt
+complains '`--plain` has no place here; usage: aspda translate SOURCE [-o FILE]' translate --plain m3.txt
+complains '-o needs a file behind it; usage: aspda restrict SET [-o FILE]' restrict '{}' -o
+complains '-o OUT is missing; usage: aspda convert [--plain] IN -o OUT' convert m3.txt
+"$aspda" read m3.txt >/dev/full 2>.err && fail "a full device is no failure"
+
+# Help: every command in the list and by itself.
+run 0 --help
+cp .out help
+for command in read show translate quotient extend restrict check convert; do
+    run 0 $command --help
+    usage=$(head -n 1 .out)
+    [[ $usage == "aspda $command "* ]] && grep -qF "$usage " help || fail "aspda $command --help"
+done
+
+echo "command.sh: $runs runs of the command, all as expected"

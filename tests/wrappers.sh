@@ -1,0 +1,42 @@
+#!/usr/bin/env bash
+# What calls the library: the Rust crate's and the command's own tests, the built command end to end, the C example.
+# Needs cargo, a C compiler and libaspda.a in $LIBRARY, else target/staticlib (rt staticlib aspda); no network.
+set -euo pipefail
+cd "$(dirname "${BASH_SOURCE[0]}")/.."
+LIBRARY=$(cd "${LIBRARY:-target/staticlib}" && pwd)
+export ASPDA_LIB_DIR=$LIBRARY CARGO_TARGET_DIR=$PWD/target/rust
+build=$(mktemp -d)
+trap 'rm -rf "$build"' EXIT
+
+fail() {
+    echo "wrappers.sh: $*" >&2
+    exit 1
+}
+
+# Shows a step's output only where the step fails.
+quietly() {
+    "$@" >"$build/log" 2>&1 || { cat "$build/log"; fail "$* failed"; }
+}
+
+quietly cargo test --offline --manifest-path rust/Cargo.toml
+awk '/^test result/ { passed += $4 } END { print "wrappers.sh: " passed " unit and doc tests passed" }' "$build/log"
+
+# Without the library the build says how to make it.
+if ASPDA_LIB_DIR=$build cargo check --offline --manifest-path rust/Cargo.toml --target-dir "$build/rust" \
+    >"$build/log" 2>&1; then
+    fail "the crate was built without the library"
+fi
+grep -qF 'rt staticlib aspda' "$build/log" || { cat "$build/log"; fail "no word about the missing library"; }
+
+quietly cargo build --release --offline --manifest-path rust/Cargo.toml
+bash tests/command.sh
+
+cc -std=c11 -Wall -Wextra -Werror -I include -o "$build/translate" examples/c/translate.c "$LIBRARY/libaspda.a"
+quietly "$build/translate" examples/m1.aspda "$build/m1.plain"
+cmp "$build/m1.plain" examples/m1.plain
+if "$build/translate" tests/filter/heads-17-refused-4.in "$build/refused" 2>"$build/log"; then
+    fail "the C example translated a rule with 17 options"
+fi
+[ "$(cat "$build/log")" = "tests/filter/heads-17-refused-4.in: refused with 4 at byte 0" ] || fail "$(cat "$build/log")"
+[ ! -e "$build/refused" ] || fail "the C example wrote a file for a refusal"
+echo "wrappers.sh: the C example translated and refused"
