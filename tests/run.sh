@@ -1,7 +1,7 @@
 #!/bin/sh
-# Everything that runs: the reference's self-test, the vectors, the runner against the library, the crate, the command, the
-# worked examples. Needs python3, rustc, cargo, a C compiler, clingo, target/staticlib/libaspda.a (rt staticlib aspda) and target/bin/filter
-# (rt check filter).
+# Everything that runs: the reference's self-test, the vectors, the runner against the library, the short form of
+# tests/reliability, the crate, the command, the worked examples. Needs python3, rustc, cargo, a C and a C++ compiler, clingo,
+# target/staticlib/libaspda.a (rt staticlib aspda) and target/bin/filter (rt check filter).
 
 # The operations that the library exports; add an operation when it is exported. Of these: read show
 # translate quotient extend restrict check, and filter for the program target/bin/filter.
@@ -49,6 +49,12 @@ case " $OPS " in *" filter "*)
         "$FILTER" <"$input" >"$build/out"
         cmp "$build/out" "${input%.in}.out"
     done
+esac
+
+# It calls every export.
+case " $OPS " in *" check "*)
+    say "a second reference, random calls beside it, memory"
+    LIBRARY="$LIBRARY" sh tests/reliability/short.sh "$build/vectors"
 esac
 
 say "recorded answer sets of a solver, the traps, the examples"

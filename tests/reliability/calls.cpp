@@ -1,0 +1,106 @@
+#include "calls.hpp"
+
+#include "../../include/aspda.h"
+
+#include <cinttypes>
+#include <cstdio>
+
+namespace calls {
+
+std::uint64_t by_library(unsigned operation, const Slices &s, std::uint32_t rule)
+{
+    switch (operation) {
+    case read_source: return aspda_read_source(s.program, s.program_length);
+    case read_plain: return aspda_read_plain(s.program, s.program_length);
+    case show_source: return aspda_show_source(s.program, s.program_length, rule);
+    case show_plain: return aspda_show_plain(s.program, s.program_length, rule);
+    case translate: return aspda_translate(s.program, s.program_length, s.out, s.room);
+    case restriction: return aspda_restrict(s.set, s.set_length, s.out, s.room);
+    default: break;
+    }
+    auto with_set = operation == quotient_source  ? aspda_quotient_source
+                    : operation == quotient_plain ? aspda_quotient_plain
+                    : operation == extend         ? aspda_extend
+                    : operation == check_source   ? aspda_check_source
+                                                  : aspda_check_plain;
+    return with_set(s.program, s.program_length, s.set, s.set_length, s.out, s.room);
+}
+
+std::uint64_t by_reference(const Call &call, Bytes &buffer)
+{
+    Form form = exports[call.operation].form;
+    switch (call.operation) {
+    case read_source:
+    case read_plain: return reference::read(form, call.program);
+    case show_source:
+    case show_plain: return reference::show(form, call.program, call.rule);
+    case translate: return reference::translate(call.program, buffer);
+    case quotient_source:
+    case quotient_plain: return reference::quotient(form, call.program, call.set, buffer);
+    case extend: return reference::extend(call.program, call.set, buffer);
+    case restriction: return reference::restriction(call.set, buffer);
+    default: return reference::check(form, call.program, call.set, buffer);
+    }
+}
+
+Bytes filling(std::size_t length, unsigned salt)
+{
+    Bytes bytes(length);
+    for (std::size_t i = 0; i < length; ++i) bytes[i] = static_cast<std::uint8_t>(i * 151 + i / 256 + salt);
+    return bytes;
+}
+
+void Tally::count(unsigned operation, std::uint64_t word)
+{
+    ++calls;
+    if (ASPDA_IS_REFUSAL(word)) {
+        ++refusals.at(ASPDA_REFUSAL_NUMBER(word));
+        return;
+    }
+    ++accepted;
+    if (is_check(operation)) ++verdicts.at(ASPDA_VERDICT(word));
+}
+
+void Tally::add(const Tally &other)
+{
+    calls += other.calls;
+    accepted += other.accepted;
+    for (std::size_t i = 0; i < refusals.size(); ++i) refusals[i] += other.refusals[i];
+    for (std::size_t i = 0; i < verdicts.size(); ++i) verdicts[i] += other.verdicts[i];
+}
+
+void print(const Tallies &tallies)
+{
+    for (std::size_t i = 0; i < exports.size(); ++i) {
+        const Tally &tally = tallies[i];
+        std::printf("%s: %" PRIu64 " cases, %" PRIu64 " accepted", exports[i].name, tally.calls, tally.accepted);
+        if (is_check(static_cast<unsigned>(i)))
+            std::printf(" (yes %" PRIu64 ", clash %" PRIu64 ", broken %" PRIu64 ", smaller %" PRIu64 ")",
+                        tally.verdicts[0], tally.verdicts[1], tally.verdicts[2], tally.verdicts[3]);
+        std::printf(", refused");
+        for (std::size_t number = 1; number < tally.refusals.size(); ++number)
+            if (tally.refusals[number] > 0) std::printf(" %zu: %" PRIu64, number, tally.refusals[number]);
+        std::printf("\n");
+    }
+}
+
+std::string hex(const std::uint8_t *bytes, std::size_t length)
+{
+    const char digits[] = "0123456789abcdef";
+    std::string text;
+    for (std::size_t i = 0; i < length; ++i) text += {digits[bytes[i] / 16], digits[bytes[i] % 16]};
+    return text;
+}
+
+void print_difference(const Call &call, std::uint64_t expected, const Bytes &buffer, std::uint64_t got,
+                      const std::uint8_t *out)
+{
+    std::printf("DIFFERENT %s, rule %" PRIu32 ", output slice of %zu bytes\n", exports[call.operation].name, call.rule,
+                call.room);
+    std::printf("program %s\n", hex(call.program.data(), call.program.size()).c_str());
+    std::printf("set %s\n", hex(call.set.data(), call.set.size()).c_str());
+    std::printf("reference: word %016" PRIx64 ", buffer %s\n", expected, hex(buffer.data(), buffer.size()).c_str());
+    std::printf("library:   word %016" PRIx64 ", buffer %s\n", got, hex(out, call.room).c_str());
+}
+
+} // namespace calls

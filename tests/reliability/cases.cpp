@@ -1,0 +1,379 @@
+#include "cases.hpp"
+
+#include "../../include/aspda.h"
+
+#include <algorithm>
+
+namespace cases {
+
+using reference::Literal;
+using reference::Literals;
+using reference::Program;
+using reference::Rule;
+
+namespace {
+
+constexpr std::size_t literal_size = 5, set_header = 4;
+
+// Room for every result of a call with these inputs.
+std::size_t ample(const Call &call)
+{
+    return 13 * call.program.size() + 6 * call.set.size() + 64;
+}
+
+Bytes encoded(Literals set)
+{
+    std::sort(set.begin(), set.end());
+    set.erase(std::unique(set.begin(), set.end()), set.end());
+    return reference::set_bytes(set);
+}
+
+Literals decoded(const Bytes &set)
+{
+    Literals literals;
+    for (std::size_t at = set_header; at + literal_size <= set.size(); at += literal_size)
+        literals.push_back({set[at], set[at + 1] * 256u + set[at + 2], set[at + 3] * 256u + set[at + 4]});
+    return literals;
+}
+
+// The first `count` literals, by kind, tag and number; of the marks those with tags 1 to 3.
+Literals run_of_literals(std::size_t count, bool negated_too, unsigned last_kind)
+{
+    Literals run;
+    for (unsigned kind = 0; kind <= std::min<unsigned>(last_kind, reference::derived_negated); ++kind) {
+        if (kind == reference::negated && !negated_too) continue;
+        bool is_mark = kind >= reference::defeated;
+        for (unsigned tag = is_mark ? 1 : 0; tag <= (is_mark ? 3u : 0u); ++tag)
+            for (unsigned number = 1; number <= reference::last_atom && run.size() < count; ++number)
+                run.push_back({kind, tag, number});
+    }
+    return run;
+}
+
+// A byte that is often just inside or just outside a range of document 01.
+std::uint8_t near(Random &random, std::uint8_t old)
+{
+    const std::vector<unsigned> edges{0, 1, 6, 7, 16, 17, 18, 64, 65, 200, 201, 244, 245, 255};
+    switch (random.below(4)) {
+    case 0: return static_cast<std::uint8_t>(random.pick(edges));
+    case 1: return static_cast<std::uint8_t>(old + 1);
+    case 2: return static_cast<std::uint8_t>(old - 1);
+    default: return static_cast<std::uint8_t>(old ^ 1u << random.below(8));
+    }
+}
+
+// Puts one of a set's literals over or in place of another.
+void misplace(Random &random, Bytes &set)
+{
+    std::size_t count = (set.size() - set_header) / literal_size;
+    auto at = [&](std::size_t i) { return set.begin() + set_header + literal_size * i; };
+    std::size_t from = random.below(count), to = random.once_in(2) ? (from + 1) % count : random.below(count);
+    if (from == to) return;
+    if (random.once_in(3)) std::copy_n(at(from), literal_size, at(to));
+    else std::swap_ranges(at(from), at(from) + literal_size, at(to));
+}
+
+} // namespace
+
+void damage(Random &random, Bytes &bytes)
+{
+    std::size_t at = random.below(bytes.size());
+    switch (random.below(8)) {
+    case 0: // cut
+        bytes.resize(random.once_in(2) ? at : bytes.size() - std::min(bytes.size(), random.between(1, 8)));
+        return;
+    case 1: // longer
+        bytes.resize(bytes.size() + random.between(1, 7), static_cast<std::uint8_t>(random.next()));
+        return;
+    case 2: // miscounted: a program's end record
+        if (!bytes.empty()) bytes.back() = near(random, bytes.back());
+        return;
+    case 3: // miscounted: a set's literals, or a first rule's tag
+        if (bytes.size() >= set_header) bytes[random.between(2, 3)] = near(random, bytes[3]);
+        return;
+    case 4: // wrong order
+        if (bytes.size() >= set_header + literal_size) misplace(random, bytes);
+        return;
+    case 5: // a stretch left out
+        bytes.erase(bytes.begin() + at, bytes.begin() + std::min(bytes.size(), at + random.between(1, 7)));
+        return;
+    default: // flipped
+        if (!bytes.empty()) bytes[at] = near(random, bytes[at]);
+    }
+}
+
+namespace {
+
+Style style_of(std::uint64_t number)
+{
+    Random random(number);
+    if (random.once_in(500)) return Style::limit;
+    return random.once_in(12) ? Style::disjunctive : Style::small;
+}
+
+} // namespace
+
+Batch::Batch(std::uint64_t seed, std::uint64_t number) : Batch(seed, number, style_of(seed + 31 * number)) {}
+
+Batch::Batch(std::uint64_t seed, std::uint64_t number, Style which)
+    : random(Random(seed).next() ^ Random(~number).next()), style(which)
+{
+    switch (style) {
+    case Style::small: make_small(); break;
+    case Style::disjunctive: make_disjunctive(); break;
+    case Style::limit: make_limit(); break;
+    }
+    make_sets(Form::source);
+    make_sets(Form::plain);
+}
+
+void Batch::choose_shape()
+{
+    using Numbers = std::vector<unsigned>;
+    atoms = random.pick(Numbers{1, 2, 3, 4, 6, 10, 30, reference::last_atom});
+    tags = random.pick(Numbers{1, 2, 3, reference::last_tag});
+    rules = random.pick(Numbers{0, 1, 2, 3, 4, 5, 6, 8, 10, 12});
+    head = random.pick(Numbers{1, 2, 2, 3, 4});
+    body = random.pick(Numbers{0, 1, 2, 2, 3});
+    if (random.once_in(20)) rules = random.between(20, 60);
+    if (random.once_in(15)) head = 16;
+    if (random.once_in(25)) body = 16;
+}
+
+void Batch::make_small()
+{
+    choose_shape();
+    for (std::size_t i = 0; i < rules; ++i) source.rules.push_back(rule(Form::source));
+    encode_source();
+    if (random.once_in(2)) return;
+    plain.rules.clear();
+    for (std::size_t i = 0; i < rules; ++i) plain.rules.push_back(rule(Form::plain));
+    plain.bytes = reference::program_bytes(plain.rules);
+}
+
+void Batch::make_disjunctive()
+{
+    atoms = static_cast<unsigned>(random.once_in(20) ? random.between(40, 64) : random.between(4, 30));
+    std::size_t most = random.between(1, 4) * atoms;
+    auto some_atom = [&] { return Literal{reference::atom, 0, static_cast<unsigned>(random.between(1, atoms))}; };
+    for (std::size_t i = 0; i < most && i < 256; ++i) {
+        Rule made{};
+        for (std::size_t n = random.between(1, 3); n > 0; --n) made.head.push_back(some_atom());
+        for (std::size_t n = random.below(3); n > 0; --n) made.positive.push_back(some_atom());
+        source.rules.push_back(made);
+    }
+    rules = source.rules.size();
+    encode_source();
+    source.sets.push_back(encoded(run_of_literals(atoms, false, reference::atom)));
+    plain.sets = source.sets;
+}
+
+// The largest source, whose translation is the largest plain program; or as many rules as a form takes, or one more.
+void Batch::make_limit()
+{
+    atoms = reference::last_atom;
+    tags = reference::last_tag;
+    bool is_full = random.once_in(2);
+    rules = is_full ? 256 : random.between(250, 257);
+    head = is_full ? 16 : 1;
+    body = is_full ? 16 : 1;
+    for (std::size_t i = 0; i < rules; ++i) {
+        Rule made = rule(Form::source);
+        if (is_full) {
+            made.defeasible = true;
+            made.tag = static_cast<unsigned>(random.between(1, tags));
+            made.head = literals(16, reference::negated);
+            made.positive = literals(16, reference::defeated_negated);
+            made.naf = literals(16, reference::defeated_negated);
+        }
+        source.rules.push_back(made);
+    }
+    encode_source();
+    if (is_full) return;
+    body = 0;
+    plain.rules.clear();
+    for (std::size_t i = random.between(12795, 12801); i > 0; --i) plain.rules.push_back(rule(Form::plain));
+    plain.bytes = reference::program_bytes(plain.rules);
+}
+
+// The source's bytes, and its translation for the plain side.
+void Batch::encode_source()
+{
+    source.bytes = reference::program_bytes(source.rules);
+    Bytes translation(13 * source.bytes.size());
+    std::uint64_t word = reference::translate(source.bytes, translation);
+    translation.resize(ASPDA_IS_REFUSAL(word) ? 0 : word);
+    plain.bytes = translation;
+    plain.rules = reference::rules_of(Form::plain, plain.bytes);
+}
+
+void Batch::make_sets(Form form)
+{
+    Side &here = side(form);
+    constexpr std::size_t tries = 3;
+    for (std::size_t i = 0; i < tries; ++i) {
+        Bytes set = encoded(head_literals(form, random.below(8)));
+        here.sets.push_back(style == Style::limit ? set : repaired(form, set));
+    }
+    if (form == Form::source) return;
+    for (const Bytes &set : std::vector<Bytes>(source.sets)) {
+        Bytes extended(source.bytes.size() + set.size() + 16);
+        std::uint64_t word = reference::extend(source.bytes, set, extended);
+        if (ASPDA_IS_REFUSAL(word)) continue;
+        extended.resize(word);
+        here.sets.push_back(extended);
+    }
+}
+
+Literal Batch::literal(unsigned last_kind)
+{
+    auto number = static_cast<unsigned>(random.once_in(40) ? reference::last_atom : random.between(1, atoms));
+    auto tag = static_cast<unsigned>(random.once_in(40) ? reference::last_tag : random.between(1, tags));
+    unsigned kind = random.once_in(2) ? 0 : static_cast<unsigned>(random.below(last_kind + 1));
+    if (kind == reference::rule_defeated)
+        return {kind, 0, static_cast<unsigned>(std::min<std::size_t>(random.between(1, rules + 1), 256))};
+    return {kind, kind < reference::defeated ? 0 : tag, number};
+}
+
+Literals Batch::literals(std::size_t count, unsigned last_kind)
+{
+    Literals some;
+    while (some.size() < count) some.push_back(literal(last_kind));
+    return some;
+}
+
+Rule Batch::rule(Form form)
+{
+    unsigned last_kind = reference::limits(form).last_kind;
+    Rule made{};
+    made.defeasible = form == Form::source && random.once_in(2);
+    made.tag = made.defeasible ? static_cast<unsigned>(random.between(1, tags)) : 0;
+    std::size_t least = made.defeasible || !random.once_in(6) ? 1 : 0;
+    made.head = literals(random.between(least, head), made.defeasible ? reference::negated : last_kind);
+    made.positive = literals(random.below(body + 1), last_kind);
+    made.naf = literals(random.below(body + 1), last_kind);
+    if (form == Form::plain && body == 16 && random.once_in(4)) made.naf = literals(17, last_kind);
+    return made;
+}
+
+// Some literals that stand in heads, with a defeat mark of an option here and there.
+Literals Batch::head_literals(Form form, std::size_t most)
+{
+    Literals some;
+    const Program &program = side(form).rules;
+    for (std::size_t i = 0; i < most && !program.empty(); ++i) {
+        const Rule &one = program[random.below(program.size())];
+        if (one.head.empty()) continue;
+        Literal chosen = random.pick(one.head);
+        if (one.defeasible && random.once_in(4)) chosen = {chosen.kind + reference::defeated, one.tag, chosen.number};
+        some.push_back(chosen);
+    }
+    return some;
+}
+
+// The set, changed as the check's verdicts ask until it is an answer set, if that comes soon.
+Bytes Batch::repaired(Form form, Bytes set)
+{
+    std::size_t rounds = random.below(12);
+    for (std::size_t i = 0; i < rounds; ++i) {
+        Bytes buffer(set.size());
+        std::uint64_t word = reference::check(form, side(form).bytes, set, buffer);
+        if (ASPDA_IS_REFUSAL(word) || ASPDA_VERDICT(word) == ASPDA_YES) break;
+        set = encoded(mended(form, decoded(set), word, buffer));
+    }
+    return set;
+}
+
+Literals Batch::mended(Form form, Literals set, std::uint64_t word, const Bytes &buffer)
+{
+    std::uint32_t value = ASPDA_VERDICT_VALUE(word);
+    if (ASPDA_VERDICT(word) == ASPDA_SMALLER) return decoded(Bytes(buffer.begin(), buffer.begin() + value));
+    if (ASPDA_VERDICT(word) == ASPDA_CLASH) {
+        set.erase(set.begin() + value - 1);
+        return set;
+    }
+    const Program &program = side(form).rules;
+    Literals options = value <= program.size() ? program[value - 1].head : Literals{};
+    if (!options.empty()) set.push_back(random.pick(options));
+    else if (!set.empty()) set.erase(set.begin() + random.below(set.size()));
+    return set;
+}
+
+// A set with a literal more, a literal less, or its first literal's opposite.
+Bytes Batch::altered(const Bytes &set, Form form)
+{
+    Literals members = decoded(set);
+    switch (random.below(3)) {
+    case 0: members.push_back(literal(reference::limits(form).last_kind)); break;
+    case 1:
+        if (!members.empty()) members.erase(members.begin() + random.below(members.size()));
+        break;
+    default:
+        if (!members.empty() && members[0].kind <= reference::negated)
+            members.push_back({1 - members[0].kind, 0, members[0].number});
+    }
+    return encoded(members);
+}
+
+Bytes Batch::set_for(unsigned operation)
+{
+    Form form = calls::exports[operation].form;
+    const reference::Limits most = reference::limits(form);
+    if (style == Style::limit && random.once_in(2))
+        return encoded(run_of_literals(random.between(most.set - 1, most.set + 1), true, most.last_kind));
+    if (random.once_in(40))
+        return encoded(run_of_literals(random.between(62, 66), random.once_in(2), most.last_kind));
+    if (random.once_in(4)) return encoded(literals(random.below(12), most.last_kind));
+    Bytes set = random.pick(side(form).sets);
+    return random.once_in(2) ? altered(set, form) : set;
+}
+
+std::uint32_t Batch::rule_number(Form form)
+{
+    if (random.once_in(30)) return static_cast<std::uint32_t>(random.next());
+    return static_cast<std::uint32_t>(random.below(side(form).rules.size() + 2));
+}
+
+// The result's own length mostly, and one less, more, none.
+std::size_t Batch::room_for(Call call)
+{
+    Bytes buffer(ample(call));
+    std::uint64_t word = calls::by_reference(call, buffer);
+    std::size_t needed = ASPDA_IS_REFUSAL(word)             ? random.below(64)
+                         : calls::is_check(call.operation) ? call.set.size()
+                                                            : word;
+    switch (random.below(12)) {
+    case 0: return needed == 0 ? 0 : needed - 1;
+    case 1: return random.below(needed);
+    case 2: return random.once_in(2) ? 0 : random.below(5);
+    case 3: return needed + random.between(1, 40);
+    case 4: return ample(call);
+    default: return needed;
+    }
+}
+
+Bytes Batch::program_for(unsigned operation)
+{
+    const calls::Export &taken = calls::exports[operation];
+    bool is_other_form = random.once_in(40);
+    Bytes program = side(is_other_form == (taken.form == Form::source) ? Form::plain : Form::source).bytes;
+    if (random.once_in(taken.takes_set ? 6 : 2)) damage(random, program);
+    else if (style == Style::limit && random.once_in(6)) program.push_back(0); // one byte above the limit
+    return program;
+}
+
+Call Batch::next()
+{
+    Call call;
+    call.operation = static_cast<unsigned>(random.below(calls::exports.size() + 2));
+    if (call.operation >= calls::exports.size()) call.operation -= 2; // the checks twice as often
+    const calls::Export &taken = calls::exports[call.operation];
+    if (taken.takes_program) call.program = program_for(call.operation);
+    if (taken.takes_set) call.set = set_for(call.operation);
+    if (taken.takes_set && random.once_in(8)) damage(random, call.set);
+    if (taken.takes_rule) call.rule = rule_number(taken.form);
+    if (taken.takes_out) call.room = room_for(call);
+    return call;
+}
+
+} // namespace cases

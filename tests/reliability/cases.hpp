@@ -1,0 +1,85 @@
+// Random calls. A batch is a source, a plain program (often the source's translation) and sets that fit them; each call
+// of the batch takes one of these, whole or damaged. A batch depends on the seed and on its number alone.
+#pragma once
+
+#include "calls.hpp"
+
+namespace cases {
+
+using calls::Bytes;
+using calls::Call;
+using calls::Form;
+
+constexpr std::uint64_t batch_size = 32;
+
+// Steele, Lea and Flood's splitmix64.
+class Random {
+public:
+    explicit Random(std::uint64_t seed) : state(seed) {}
+
+    std::uint64_t next()
+    {
+        std::uint64_t mixed = state += 0x9e3779b97f4a7c15;
+        mixed = (mixed ^ mixed >> 30) * 0xbf58476d1ce4e5b9;
+        mixed = (mixed ^ mixed >> 27) * 0x94d049bb133111eb;
+        return mixed ^ mixed >> 31;
+    }
+    // 0 to bound - 1; 0 if the bound is 0.
+    std::size_t below(std::size_t bound) { return bound == 0 ? 0 : next() % bound; }
+    std::size_t between(std::size_t least, std::size_t most) { return least + below(most - least + 1); }
+    bool once_in(std::size_t times) { return below(times) == 0; }
+    template <class Items> auto pick(const Items &items) { return items[below(items.size())]; }
+
+private:
+    std::uint64_t state;
+};
+
+// One byte, literal or count of a program or set changed, or the slice cut or made longer.
+void damage(Random &random, Bytes &bytes);
+
+// Small: few atoms and tags, so that rules meet. Disjunctive: strict rules without naf over a set that is a model of
+// them all, so that the check has to search. Limit: programs and sets at the forms' limits and one above.
+enum class Style { small, disjunctive, limit };
+
+class Batch {
+public:
+    Batch(std::uint64_t seed, std::uint64_t number);
+    Batch(std::uint64_t seed, std::uint64_t number, Style style);
+
+    Call next();
+
+private:
+    struct Side {
+        reference::Program rules;
+        Bytes bytes;
+        std::vector<Bytes> sets;
+    };
+
+    void choose_shape();
+    void make_small();
+    void make_disjunctive();
+    void make_limit();
+    void make_sets(Form form);
+    void encode_source();
+    reference::Literal literal(unsigned last_kind);
+    reference::Literals literals(std::size_t count, unsigned last_kind);
+    reference::Rule rule(Form form);
+    reference::Literals head_literals(Form form, std::size_t most);
+    Bytes repaired(Form form, Bytes set);
+    reference::Literals mended(Form form, reference::Literals set, std::uint64_t word, const Bytes &buffer);
+    Bytes program_for(unsigned operation);
+    Bytes set_for(unsigned operation);
+    Bytes altered(const Bytes &set, Form form);
+    std::size_t room_for(Call call);
+    std::uint32_t rule_number(Form form);
+    Side &side(Form form) { return form == Form::source ? source : plain; }
+
+    Random random;
+    Style style;
+    // The largest numbers that rules use.
+    unsigned atoms = 1, tags = 1;
+    std::size_t rules = 0, head = 1, body = 1;
+    Side source, plain;
+};
+
+} // namespace cases

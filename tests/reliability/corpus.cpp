@@ -1,0 +1,61 @@
+// Writes a seed corpus for fuzz.cpp: corpus DIRECTORY FILE...
+// Each FILE is a program in bytes (examples/*.aspda, *.plain); besides there are calls of cases.hpp.
+#include "cases.hpp"
+
+#include <cstdio>
+#include <fstream>
+#include <iterator>
+
+namespace {
+
+using calls::Bytes;
+
+void put(const std::string &directory, unsigned operation, std::size_t number, const Bytes &set, const Bytes &program)
+{
+    static unsigned files = 0;
+    std::ofstream stream(directory + "/" + std::to_string(files++), std::ios::binary);
+    for (std::size_t byte : {std::size_t{operation}, number / 256, number % 256, set.size() / 256, set.size() % 256})
+        stream.put(static_cast<char>(byte));
+    for (const Bytes *part : {&set, &program})
+        stream.write(reinterpret_cast<const char *>(part->data()), static_cast<std::streamsize>(part->size()));
+}
+
+// Calls of every export with this program and set, and an output slice that is long enough for most.
+void put_all(const std::string &directory, const Bytes &set, const Bytes &program)
+{
+    for (unsigned operation = 0; operation < calls::exports.size(); ++operation)
+        put(directory, operation, calls::exports[operation].takes_rule ? 1 : 6000, set, program);
+}
+
+// As many rules as a source takes, and one more; sets as large as the check and a source take, and one more.
+void put_limits(const std::string &directory)
+{
+    for (std::size_t rules : {256, 257})
+        put_all(directory, reference::set_bytes({}), reference::program_bytes(reference::Program(rules)));
+    for (unsigned literals : {64, 65, 1000, 1001}) {
+        reference::Literals set;
+        for (unsigned i = 0; i < literals; ++i) set.push_back({i / 500 * 2, i / 500, i % 500 + 1});
+        put_all(directory, reference::set_bytes(set), reference::program_bytes({}));
+    }
+}
+
+} // namespace
+
+int main(int count, char **words)
+{
+    if (count < 2) return std::puts("usage: corpus DIRECTORY FILE..."), 2;
+    for (int i = 2; i < count; ++i) {
+        std::ifstream stream(words[i], std::ios::binary);
+        put_all(words[1], reference::set_bytes({}), Bytes((std::istreambuf_iterator<char>(stream)), {}));
+    }
+    put_limits(words[1]);
+    for (std::uint64_t number = 0; number < 30; ++number) {
+        cases::Batch batch(1, number, cases::Style::small);
+        for (std::uint64_t i = 0; i < cases::batch_size; ++i) {
+            calls::Call call = batch.next();
+            std::size_t last = calls::exports[call.operation].takes_rule ? call.rule : call.room;
+            if (call.program.size() + call.set.size() < 1000)
+                put(words[1], call.operation, last % 65536, call.set, call.program);
+        }
+    }
+}

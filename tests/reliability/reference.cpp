@@ -1,0 +1,534 @@
+#include "reference.hpp"
+
+#include <algorithm>
+
+namespace reference {
+
+Limits limits(Form form)
+{
+    if (form == Form::source) return {63236, 256, 16, 16, 16, defeated_negated, 1000};
+    return {317444, 12800, 16, 16, 17, rule_defeated, 5352};
+}
+
+namespace {
+
+struct Refusal {
+    std::uint64_t number, place;
+};
+
+// The word of an operation that may throw a refusal.
+template <class Operation> std::uint64_t word_of(Operation operation)
+{
+    try {
+        return operation();
+    } catch (const Refusal &refusal) {
+        return (std::uint64_t{1} << 63) + (refusal.number << 32) + refusal.place;
+    }
+}
+
+// ---- Records
+
+unsigned two_bytes(const Bytes &bytes, std::size_t at)
+{
+    return bytes[at] * 256u + bytes[at + 1];
+}
+
+void put_two_bytes(Bytes &bytes, std::size_t number)
+{
+    bytes.push_back(static_cast<std::uint8_t>(number / 256));
+    bytes.push_back(static_cast<std::uint8_t>(number % 256));
+}
+
+void put_mark(Bytes &bytes, char mark)
+{
+    bytes.push_back(static_cast<std::uint8_t>(mark));
+    bytes.push_back(':');
+}
+
+void put_literals(Bytes &bytes, const Literals &literals)
+{
+    for (const Literal &literal : literals) {
+        bytes.push_back(static_cast<std::uint8_t>(literal.kind));
+        put_two_bytes(bytes, literal.tag);
+        put_two_bytes(bytes, literal.number);
+    }
+}
+
+void put_rule(Bytes &bytes, const Rule &rule)
+{
+    put_mark(bytes, rule.defeasible ? 'D' : 'S');
+    put_two_bytes(bytes, rule.tag);
+    for (const Literals *part : {&rule.head, &rule.positive, &rule.naf})
+        bytes.push_back(static_cast<std::uint8_t>(part->size()));
+    for (const Literals *part : {&rule.head, &rule.positive, &rule.naf}) put_literals(bytes, *part);
+}
+
+Literal literal_at(const Bytes &bytes, std::size_t at)
+{
+    return {bytes[at], two_bytes(bytes, at + 1), two_bytes(bytes, at + 3)};
+}
+
+bool is_of_form(const Literal &literal, Form form)
+{
+    if (literal.kind > limits(form).last_kind) return false;
+    bool is_tagged = literal.kind >= defeated && literal.kind <= derived_negated;
+    if (is_tagged && (literal.tag < 1 || literal.tag > last_tag)) return false;
+    if (!is_tagged && literal.tag != 0) return false;
+    return literal.number >= 1 && literal.number <= (literal.kind == rule_defeated ? last_rule_number : last_atom);
+}
+
+// ---- Read
+
+bool is_mark(const Bytes &bytes, std::size_t at, char mark)
+{
+    return bytes[at] == static_cast<std::uint8_t>(mark) && bytes[at + 1] == ':';
+}
+
+Literals read_literals(Form form, const Bytes &bytes, std::size_t at, std::size_t count)
+{
+    Literals literals;
+    literals.reserve(count);
+    for (std::size_t i = 0; i < count; ++i) {
+        Literal literal = literal_at(bytes, at + 5 * i);
+        if (!is_of_form(literal, form)) throw Refusal{5, at + 5 * i};
+        literals.push_back(literal);
+    }
+    return literals;
+}
+
+bool is_option(const Literal &literal)
+{
+    return literal.kind == atom || literal.kind == negated;
+}
+
+// The rule whose mark stands at `at`; `held` rules stand before it.
+Rule read_rule(Form form, const Bytes &bytes, std::size_t at, std::size_t held)
+{
+    const Limits most = limits(form);
+    if (bytes.size() - at < 7) throw Refusal{2, at};
+    if (held == most.rules) throw Refusal{4, at};
+    Rule rule{bytes[at] == 'D', two_bytes(bytes, at + 2), {}, {}, {}, at, 0};
+    if (rule.defeasible ? rule.tag < 1 || rule.tag > last_tag : rule.tag != 0) throw Refusal{6, at};
+    std::size_t head = bytes[at + 4], positive = bytes[at + 5], naf = bytes[at + 6];
+    if (head > most.head || positive > most.positive || naf > most.naf) throw Refusal{4, at};
+    rule.length = 7 + 5 * (head + positive + naf);
+    if (bytes.size() - at < rule.length) throw Refusal{2, at};
+    rule.head = read_literals(form, bytes, at + 7, head);
+    rule.positive = read_literals(form, bytes, at + 7 + 5 * head, positive);
+    rule.naf = read_literals(form, bytes, at + 7 + 5 * (head + positive), naf);
+    if (rule.defeasible && (head == 0 || !std::all_of(rule.head.begin(), rule.head.end(), is_option)))
+        throw Refusal{7, at};
+    return rule;
+}
+
+void read_end(const Bytes &bytes, std::size_t at, std::size_t held)
+{
+    if (bytes.size() - at < 4) throw Refusal{2, at};
+    if (two_bytes(bytes, at + 2) != held) throw Refusal{8, at};
+    if (bytes.size() - at > 4) throw Refusal{8, at};
+}
+
+Program read_program(Form form, const Bytes &bytes)
+{
+    if (bytes.size() > limits(form).length) throw Refusal{1, 0};
+    Program program;
+    std::size_t at = 0;
+    for (;;) {
+        if (bytes.size() - at < 2) throw Refusal{2, at};
+        bool is_end = is_mark(bytes, at, 'E');
+        bool is_rule = is_mark(bytes, at, 'S') || (form == Form::source && is_mark(bytes, at, 'D'));
+        if (!is_end && !is_rule) throw Refusal{3, at};
+        if (is_end) break;
+        program.push_back(read_rule(form, bytes, at, program.size()));
+        at += program.back().length;
+    }
+    read_end(bytes, at, program.size());
+    return program;
+}
+
+// ---- Sets
+
+Literals read_set(Form form, const Bytes &bytes, std::size_t most)
+{
+    if (bytes.size() < 4 || !is_mark(bytes, 0, 'A')) throw Refusal{10, 0};
+    std::size_t count = two_bytes(bytes, 2);
+    if (bytes.size() != 4 + 5 * count) throw Refusal{10, 0};
+    if (count > most) throw Refusal{12, 0};
+    Literals set;
+    for (std::size_t at = 4; at < bytes.size(); at += 5) {
+        Literal literal = literal_at(bytes, at);
+        if (!is_of_form(literal, form)) throw Refusal{11, at};
+        if (!set.empty() && !(set.back() < literal)) throw Refusal{11, at};
+        set.push_back(literal);
+    }
+    return set;
+}
+
+bool contains(const Literals &set, const Literal &literal)
+{
+    return std::binary_search(set.begin(), set.end(), literal);
+}
+
+// ---- Results
+
+std::uint64_t deliver(const Bytes &result, Bytes &buffer)
+{
+    if (buffer.size() < result.size()) throw Refusal{9, 0};
+    std::copy(result.begin(), result.end(), buffer.begin());
+    return result.size();
+}
+
+Rule strict(Literals head, Literals positive, Literals naf)
+{
+    return {false, 0, std::move(head), std::move(positive), std::move(naf), 0, 0};
+}
+
+// ---- Translation
+
+Literal defeat_mark(unsigned tag, const Literal &option)
+{
+    return {option.kind == atom ? defeated : defeated_negated, tag, option.number};
+}
+
+Literal derivation_mark(unsigned tag, const Literal &option)
+{
+    return {option.kind == atom ? derived : derived_negated, tag, option.number};
+}
+
+Literal rule_defeated_mark(std::size_t number)
+{
+    return {rule_defeated, 0, static_cast<unsigned>(number)};
+}
+
+// Rules (2) to (6) of document 01 for the defeasible rule of this number.
+void put_translated(Program &translation, const Rule &rule, std::size_t number)
+{
+    Literals defeats, derivations, naf = rule.naf;
+    for (const Literal &option : rule.head) {
+        defeats.push_back(defeat_mark(rule.tag, option));
+        derivations.push_back(derivation_mark(rule.tag, option));
+    }
+    naf.push_back(rule_defeated_mark(number));
+    translation.push_back(strict(derivations, rule.positive, naf));
+    translation.push_back(strict({rule_defeated_mark(number)}, defeats, {}));
+    for (std::size_t i = 0; i < rule.head.size(); ++i) {
+        translation.push_back(strict({rule.head[i]}, {derivations[i]}, {}));
+        translation.push_back(strict({derivations[i]}, {rule.head[i]}, {defeats[i]}));
+        translation.push_back(strict({}, {derivations[i], defeats[i]}, {}));
+    }
+}
+
+// ---- Extension
+
+bool is_all_defeated(const Rule &rule, const Literals &set)
+{
+    return std::all_of(rule.head.begin(), rule.head.end(),
+                       [&](const Literal &option) { return contains(set, defeat_mark(rule.tag, option)); });
+}
+
+Literals extension(const Program &source, const Literals &set)
+{
+    Literals extended = set;
+    for (std::size_t i = 0; i < source.size(); ++i) {
+        const Rule &rule = source[i];
+        if (!rule.defeasible) continue;
+        for (const Literal &option : rule.head)
+            if (contains(set, option) && !contains(set, defeat_mark(rule.tag, option)))
+                extended.push_back(derivation_mark(rule.tag, option));
+        if (is_all_defeated(rule, set)) extended.push_back(rule_defeated_mark(i + 1));
+    }
+    std::sort(extended.begin(), extended.end());
+    extended.erase(std::unique(extended.begin(), extended.end()), extended.end());
+    return extended;
+}
+
+// ---- Quotient
+
+// What a program's rule of this number, from 1, leaves.
+struct Remainder {
+    std::size_t number;
+    Literals head, positive;
+};
+
+using Quotient = std::vector<Remainder>;
+
+Quotient quotient_of(const Program &program, const Literals &set)
+{
+    auto is_in_set = [&](const Literal &literal) { return contains(set, literal); };
+    Quotient quotient;
+    for (std::size_t i = 0; i < program.size(); ++i) {
+        const Rule &rule = program[i];
+        if (std::any_of(rule.naf.begin(), rule.naf.end(), is_in_set)) continue;
+        Literals head;
+        for (const Literal &literal : rule.head)
+            if (!rule.defeasible || !is_in_set(defeat_mark(rule.tag, literal))) head.push_back(literal);
+        if (rule.defeasible && head.empty()) continue;
+        quotient.push_back({i + 1, head, rule.positive});
+    }
+    return quotient;
+}
+
+bool holds(const Remainder &rule, const Literals &set)
+{
+    auto is_in_set = [&](const Literal &literal) { return contains(set, literal); };
+    return !std::all_of(rule.positive.begin(), rule.positive.end(), is_in_set) ||
+           std::any_of(rule.head.begin(), rule.head.end(), is_in_set);
+}
+
+bool is_model(const Quotient &quotient, const Literals &set)
+{
+    return std::all_of(quotient.begin(), quotient.end(), [&](const Remainder &rule) { return holds(rule, set); });
+}
+
+// ---- The first smaller model
+
+struct Witness {
+    bool found;
+    Literals set;
+};
+
+enum Choice { absent, present, open };
+
+using Choices = std::vector<Choice>;
+
+// The members of `set` that are present, in order.
+Literals chosen(const Literals &set, const Choices &choices)
+{
+    Literals subset;
+    for (std::size_t i = 0; i < set.size(); ++i)
+        if (choices[i] == present) subset.push_back(set[i]);
+    return subset;
+}
+
+// Every proper subset in document 01's order. A subset is a number whose highest bit is the first literal: absent
+// before present, literal by literal, is then the order of the numbers, and the set itself is the last.
+Witness first_by_force(const Quotient &quotient, const Literals &set)
+{
+    std::size_t size = set.size();
+    for (std::size_t row = 0; row + 1 < std::size_t{1} << size; ++row) {
+        Choices choices(size);
+        for (std::size_t i = 0; i < size; ++i) choices[i] = row >> (size - 1 - i) & 1 ? present : absent;
+        Literals subset = chosen(set, choices);
+        if (is_model(quotient, subset)) return {true, subset};
+    }
+    return {false, {}};
+}
+
+// A rule by the places in the set of its literals: some of `head` are present or some of `positive` absent.
+struct Clause {
+    std::vector<std::size_t> head, positive;
+};
+
+std::vector<std::size_t> places_in(const Literals &set, const Literals &literals)
+{
+    std::vector<std::size_t> places;
+    for (const Literal &literal : literals) {
+        auto found = std::lower_bound(set.begin(), set.end(), literal);
+        if (found != set.end() && *found == literal) places.push_back(found - set.begin());
+    }
+    std::sort(places.begin(), places.end());
+    places.erase(std::unique(places.begin(), places.end()), places.end());
+    return places;
+}
+
+// A rule with a positive literal outside the set holds in every subset and gives no clause.
+std::vector<Clause> clauses_of(const Quotient &quotient, const Literals &set)
+{
+    auto is_in_set = [&](const Literal &literal) { return contains(set, literal); };
+    std::vector<Clause> clauses;
+    for (const Remainder &rule : quotient)
+        if (std::all_of(rule.positive.begin(), rule.positive.end(), is_in_set))
+            clauses.push_back({places_in(set, rule.head), places_in(set, rule.positive)});
+    Clause proper;
+    for (std::size_t i = 0; i < set.size(); ++i) proper.positive.push_back(i);
+    clauses.push_back(proper);
+    return clauses;
+}
+
+enum class Forced { nothing, something, contradiction };
+
+// Gives the one open literal of a clause that does not hold yet the choice that makes it hold.
+Forced force(const Clause &clause, Choices &choices)
+{
+    std::size_t opens = 0, last = 0;
+    Choice wanted = open;
+    for (std::size_t place : clause.head) {
+        if (choices[place] == present) return Forced::nothing;
+        if (choices[place] == open) ++opens, last = place, wanted = present;
+    }
+    for (std::size_t place : clause.positive) {
+        if (choices[place] == absent) return Forced::nothing;
+        if (choices[place] == open) ++opens, last = place, wanted = absent;
+    }
+    if (opens == 0) return Forced::contradiction;
+    if (opens > 1) return Forced::nothing;
+    choices[last] = wanted;
+    return Forced::something;
+}
+
+bool force_all(const std::vector<Clause> &clauses, Choices &choices)
+{
+    for (bool changed = true; changed;) {
+        changed = false;
+        for (const Clause &clause : clauses) {
+            Forced forced = force(clause, choices);
+            if (forced == Forced::contradiction) return false;
+            if (forced == Forced::something) changed = true;
+        }
+    }
+    return true;
+}
+
+// Choices for all that are open, the first in document 01's order; false if there are none.
+bool choose(const std::vector<Clause> &clauses, Choices &choices)
+{
+    if (!force_all(clauses, choices)) return false;
+    auto first = std::find(choices.begin(), choices.end(), open);
+    if (first == choices.end()) return true;
+    for (Choice choice : {absent, present}) {
+        Choices tried = choices;
+        tried[first - choices.begin()] = choice;
+        if (choose(clauses, tried)) {
+            choices = tried;
+            return true;
+        }
+    }
+    return false;
+}
+
+Witness first_by_search(const Quotient &quotient, const Literals &set)
+{
+    Choices choices(set.size(), open);
+    if (!choose(clauses_of(quotient, set), choices)) return {false, {}};
+    return {true, chosen(set, choices)};
+}
+
+Witness first_smaller(const Quotient &quotient, const Literals &set)
+{
+    constexpr std::size_t small = 7;
+    return set.size() <= small ? first_by_force(quotient, set) : first_by_search(quotient, set);
+}
+
+// ---- Check
+
+enum Verdict : std::uint64_t { yes, clash, broken, smaller };
+
+std::uint64_t verdict_word(Verdict verdict, std::uint64_t value)
+{
+    return (static_cast<std::uint64_t>(verdict) << 32) + value;
+}
+
+bool has_opposite_in(const Literals &set, const Literal &literal)
+{
+    return is_option(literal) && contains(set, {literal.kind == atom ? negated : atom, 0, literal.number});
+}
+
+std::uint64_t judge(const Program &program, const Literals &set, Bytes &buffer)
+{
+    for (std::size_t i = 0; i < set.size(); ++i)
+        if (has_opposite_in(set, set[i])) return verdict_word(clash, i + 1);
+    Quotient quotient = quotient_of(program, set);
+    for (const Remainder &rule : quotient)
+        if (!holds(rule, set)) return verdict_word(broken, rule.number);
+    Witness witness = first_smaller(quotient, set);
+    if (!witness.found) return verdict_word(yes, 0);
+    return verdict_word(smaller, deliver(set_bytes(witness.set), buffer));
+}
+
+} // namespace
+
+// ---- The operations
+
+Bytes program_bytes(const Program &program)
+{
+    Bytes bytes;
+    for (const Rule &rule : program) put_rule(bytes, rule);
+    put_mark(bytes, 'E');
+    put_two_bytes(bytes, program.size());
+    return bytes;
+}
+
+Bytes set_bytes(const Literals &set)
+{
+    Bytes bytes;
+    put_mark(bytes, 'A');
+    put_two_bytes(bytes, set.size());
+    put_literals(bytes, set);
+    return bytes;
+}
+
+Program rules_of(Form form, const Bytes &bytes)
+{
+    try {
+        return read_program(form, bytes);
+    } catch (const Refusal &) {
+        return {};
+    }
+}
+
+std::uint64_t read(Form form, const Bytes &program)
+{
+    return word_of([&] { return read_program(form, program).size(); });
+}
+
+std::uint64_t show(Form form, const Bytes &program, std::uint32_t rule)
+{
+    return word_of([&] {
+        Program rules = read_program(form, program);
+        if (rule == 0 || rule > rules.size()) throw Refusal{13, 0};
+        return (static_cast<std::uint64_t>(rules[rule - 1].start) << 32) + rules[rule - 1].length;
+    });
+}
+
+std::uint64_t translate(const Bytes &source, Bytes &buffer)
+{
+    return word_of([&] {
+        Program rules = read_program(Form::source, source), translation;
+        for (std::size_t i = 0; i < rules.size(); ++i) {
+            if (rules[i].defeasible) put_translated(translation, rules[i], i + 1);
+            else translation.push_back(rules[i]);
+        }
+        return deliver(program_bytes(translation), buffer);
+    });
+}
+
+std::uint64_t quotient(Form form, const Bytes &program, const Bytes &set, Bytes &buffer)
+{
+    return word_of([&] {
+        Program rules = read_program(form, program), left;
+        Literals literals = read_set(form, set, limits(form).set);
+        for (const Remainder &rule : quotient_of(rules, literals)) left.push_back(strict(rule.head, rule.positive, {}));
+        return deliver(program_bytes(left), buffer);
+    });
+}
+
+std::uint64_t extend(const Bytes &source, const Bytes &set, Bytes &buffer)
+{
+    return word_of([&] {
+        Program rules = read_program(Form::source, source);
+        Literals literals = read_set(Form::source, set, limits(Form::source).set);
+        return deliver(set_bytes(extension(rules, literals)), buffer);
+    });
+}
+
+std::uint64_t restriction(const Bytes &set, Bytes &buffer)
+{
+    return word_of([&] {
+        Literals kept;
+        for (const Literal &literal : read_set(Form::plain, set, limits(Form::plain).set))
+            if (literal.kind < derived) kept.push_back(literal);
+        return deliver(set_bytes(kept), buffer);
+    });
+}
+
+std::uint64_t check(Form form, const Bytes &program, const Bytes &set, Bytes &buffer)
+{
+    return word_of([&] {
+        Program rules = read_program(form, program);
+        Literals literals = read_set(form, set, checked_set);
+        if (buffer.size() < set.size()) throw Refusal{9, 0};
+        return judge(rules, literals, buffer);
+    });
+}
+
+} // namespace reference

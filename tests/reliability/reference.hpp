@@ -1,0 +1,73 @@
+// A second reference, in C++ so that millions of calls can be compared: every operation of document 01, written from
+// that document and from include/aspda.h, without the library's definitions or code and without the Python reference.
+// It is written for plainness: a program becomes a vector of rules, a set a sorted vector.
+#pragma once
+
+#include <cstddef>
+#include <cstdint>
+#include <tuple>
+#include <vector>
+
+namespace reference {
+
+using Bytes = std::vector<std::uint8_t>;
+
+enum class Form { source, plain };
+
+// A form's row of limits (document 01, "Source form and plain form").
+struct Limits {
+    std::size_t length, rules, head, positive, naf;
+    unsigned last_kind;
+    std::size_t set;
+};
+
+Limits limits(Form form);
+
+constexpr unsigned last_atom = 500, last_tag = 200, last_rule_number = 256;
+constexpr std::size_t checked_set = 64;
+
+enum Kind : unsigned { atom, negated, defeated, defeated_negated, derived, derived_negated, rule_defeated };
+
+// In the order of the fields, which is the order of the bytes.
+struct Literal {
+    unsigned kind, tag, number;
+
+    bool operator<(const Literal &other) const
+    {
+        return std::tie(kind, tag, number) < std::tie(other.kind, other.tag, other.number);
+    }
+    bool operator==(const Literal &other) const
+    {
+        return kind == other.kind && tag == other.tag && number == other.number;
+    }
+};
+
+using Literals = std::vector<Literal>;
+
+struct Rule {
+    bool defeasible;
+    unsigned tag;
+    Literals head, positive, naf;
+    // Where its record lies, if it was read.
+    std::size_t start, length;
+};
+
+using Program = std::vector<Rule>;
+
+// The bytes of a program and of a set, whether or not they keep a form's limits.
+Bytes program_bytes(const Program &program);
+Bytes set_bytes(const Literals &set);
+// The rules of a program's bytes; none if they are refused.
+Program rules_of(Form form, const Bytes &bytes);
+
+// Each gives the word of include/aspda.h. `buffer` is the lent output slice: it comes with what it holds before the
+// call and leaves with what it holds afterwards.
+std::uint64_t read(Form form, const Bytes &program);
+std::uint64_t show(Form form, const Bytes &program, std::uint32_t rule);
+std::uint64_t translate(const Bytes &source, Bytes &buffer);
+std::uint64_t quotient(Form form, const Bytes &program, const Bytes &set, Bytes &buffer);
+std::uint64_t extend(const Bytes &source, const Bytes &set, Bytes &buffer);
+std::uint64_t restriction(const Bytes &set, Bytes &buffer);
+std::uint64_t check(Form form, const Bytes &program, const Bytes &set, Bytes &buffer);
+
+} // namespace reference
