@@ -1,7 +1,7 @@
 //! The rows of the check, beside plain Rust with the same search and, where it is installed, clingo on the same question.
 
 use crate::plain_reader::{Limits, PLAIN, SOURCE};
-use crate::{best, plain_check, Numbers};
+use crate::{best, copied, plain_check, speed_start, Numbers};
 use std::collections::{BTreeMap, BTreeSet};
 use std::fmt::Write;
 use std::hint::black_box;
@@ -11,7 +11,7 @@ use std::time::Instant;
 type Check = unsafe extern "C" fn(*const u8, usize, *const u8, usize, *mut u8, usize) -> u64;
 
 extern "C" {
-    fn aspda_check_source(p: *const u8, n: usize, s: *const u8, k: usize, out: *mut u8, m: usize) -> u64;
+    pub fn aspda_check_source(p: *const u8, n: usize, s: *const u8, k: usize, out: *mut u8, m: usize) -> u64;
     fn aspda_check_plain(p: *const u8, n: usize, s: *const u8, k: usize, out: *mut u8, m: usize) -> u64;
 }
 
@@ -301,7 +301,7 @@ fn row(name: &str, limits: &Limits, check: Check, question: &Question, clingo: O
     let (a, b) = best(|| proved(check, question, &mut ours), || plain_rust(limits, question, &mut theirs));
     let length = question.program.len();
     let mb = length as f64 / 1e6;
-    print!("{name:<20} {length:>8} bytes  proved {:>8.1} MB/s  plain Rust {:>8.1} MB/s  ratio {:.2}", mb / a, mb / b, b / a);
+    speed_start(name, length, (a, b), copied(&question.program));
     if clingo.is_some_and(<[Clingo]>::is_empty) {
         print!("  clingo not installed");
     }
@@ -317,7 +317,7 @@ fn hard_lines(name: &str, other: &str, mut ours: Vec<f64>, mut theirs: Vec<f64>)
     for (which, i) in [("median", count / 2), ("slowest", count - 1)] {
         let (a, b) = (ours[i] * 1e3, theirs[i] * 1e3);
         let name = format!("{name} {which}");
-        println!("{name:<20} {count:>7} checks  proved {a:>8.2} ms    {other:<10} {b:>8.2} ms    ratio {:.2}", b / a);
+        println!("{name:<20} {count:>6}  {a:>10.2}   {other:<10} {b:>9.2}  {:>5.2}", b / a);
     }
 }
 
@@ -326,10 +326,10 @@ fn hard_rows(name: &str, questions: &[Question], times: usize, step: usize, clin
     let each: Vec<(bool, f64, f64)> =
         questions.iter().map(|question| agreed(name, &PLAIN, aspda_check_plain, question, times)).collect();
     let yes = each.iter().filter(|(yes, _, _)| *yes).count();
-    println!("{name:<20} {:>7} checks  {yes} yes, {} smaller", each.len(), each.len() - yes);
+    println!("{name:<20} {:>6}  {yes} yes, {} smaller", each.len(), each.len() - yes);
     hard_lines(name, "plain Rust", each.iter().map(|one| one.1).collect(), each.iter().map(|one| one.2).collect());
     if clingo.is_empty() {
-        println!("{name:<20}       0 checks  clingo not installed");
+        println!("{name:<20}      0  clingo not installed");
     }
     for mode in clingo {
         let asked = questions.iter().zip(&each).step_by(step);
@@ -342,8 +342,9 @@ pub fn rows() {
     let clingo = Clingo::modes();
     row("check source", &SOURCE, aspda_check_source, &source(), None);
     row("check plain 12800", &PLAIN, aspda_check_plain, &plain(), Some(&clingo));
+    println!("\nsearches             checks   proved ms   beside            ms  ratio");
     hard_rows("check hard", &mixed(), 3, 11, &clingo);
-    hard_rows("check hard 4", &fours(), 1, 1, &clingo);
+    hard_rows("check hard 4", &fours(), 3, 1, &clingo);
     for mode in &clingo {
         println!("{} is clingo {}, without its start of {:.1} ms", mode.name, mode.mode, mode.start * 1e3);
     }

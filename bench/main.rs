@@ -1,7 +1,10 @@
-//! How fast each operation is, beside plain Rust on the same bytes, in one run.
-//! Both are built for release; the ratio is the proved code's speed over the plain one's.
+//! How fast each operation is, beside plain Rust on the same bytes and beside a copy of them, in one run; how time grows with a
+//! program; how long translations are. Both programs are built for release; the ratio is the proved code's speed over the
+//! plain one's.
 
 mod checks;
+mod growth;
+mod output_sizes;
 mod plain_check;
 mod plain_reader;
 mod plain_sets;
@@ -94,13 +97,28 @@ fn row(name: &str, bytes: &[u8], limits: &Limits, proved: unsafe extern "C" fn(*
     let ours = || unsafe { proved(black_box(bytes).as_ptr(), bytes.len()) };
     let theirs = || plain_reader::read(black_box(limits), black_box(bytes));
     assert_eq!(ours(), theirs(), "the two readers disagree on {name}");
-    speed(name, bytes.len(), best(ours, theirs));
+    speed(name, bytes.len(), best(ours, theirs), copied(bytes));
 }
 
-/// A line of the table, by the bytes read.
-fn speed(name: &str, length: usize, (a, b): (f64, f64)) {
+/// Seconds for a copy of these bytes: what no program can beat that looks at each of them.
+fn copied(bytes: &[u8]) -> f64 {
+    let mut out = vec![0; bytes.len()];
+    let mut copy = || {
+        out.copy_from_slice(black_box(bytes));
+        black_box(&out)[0] as u64
+    };
+    best(&mut copy, || 0).0
+}
+
+/// A line of the table, by the bytes that are read or written, without its end.
+fn speed_start(name: &str, length: usize, (a, b): (f64, f64), copy: f64) {
     let mb = length as f64 / 1e6;
-    println!("{name:<20} {length:>8} bytes  proved {:>8.1} MB/s  plain Rust {:>8.1} MB/s  ratio {:.2}", mb / a, mb / b, b / a);
+    print!("{name:<20} {length:>8}  {:>10.1}  {:>10.1}  {:>5.2}  {:>10.1}", mb / a, mb / b, b / a, mb / copy);
+}
+
+fn speed(name: &str, length: usize, times: (f64, f64), copy: f64) {
+    speed_start(name, length, times, copy);
+    println!();
 }
 
 /// The best time of a call that fills `out`, which is cleared before each, outside the time.
@@ -128,14 +146,7 @@ fn output_row(name: &str, room: usize, mut proved: impl FnMut(&mut [u8]) -> u64,
         });
     }
     assert!(ours == theirs && ours == copied, "the two disagree on {name}");
-    let mb = length as f64 / 1e6;
-    println!(
-        "{name:<20} {length:>8} bytes  proved {:>8.1} MB/s  plain Rust {:>8.1} MB/s  ratio {:.2}  memcpy {:>8.1} MB/s",
-        mb / a,
-        mb / b,
-        b / a,
-        mb / c
-    );
+    speed(name, length, (a, b), c);
 }
 
 fn translate_row(name: &str, source: &[u8]) {
@@ -148,10 +159,13 @@ fn translate_row(name: &str, source: &[u8]) {
 }
 
 fn main() {
+    println!("operation               bytes  proved MB/s    Rust MB/s  ratio  memcpy MB/s");
     row("read source", &source(), &SOURCE, aspda_read_source);
     row("read plain", &plain(), &PLAIN, aspda_read_plain);
     translate_row("translate all", &source());
     translate_row("translate D:", &options());
     sets::rows();
     checks::rows();
+    growth::rows();
+    output_sizes::rows();
 }

@@ -5,12 +5,12 @@ use crate::{literal, output_row, plain, plain_sets, program, source, Numbers};
 use std::collections::BTreeSet;
 use std::hint::black_box;
 
-type WithProgram = unsafe extern "C" fn(*const u8, usize, *const u8, usize, *mut u8, usize) -> u64;
+pub type WithProgram = unsafe extern "C" fn(*const u8, usize, *const u8, usize, *mut u8, usize) -> u64;
 
 extern "C" {
-    fn aspda_quotient_source(p: *const u8, n: usize, s: *const u8, k: usize, out: *mut u8, m: usize) -> u64;
+    pub fn aspda_quotient_source(p: *const u8, n: usize, s: *const u8, k: usize, out: *mut u8, m: usize) -> u64;
     fn aspda_quotient_plain(p: *const u8, n: usize, s: *const u8, k: usize, out: *mut u8, m: usize) -> u64;
-    fn aspda_extend(p: *const u8, n: usize, s: *const u8, k: usize, out: *mut u8, m: usize) -> u64;
+    pub fn aspda_extend(p: *const u8, n: usize, s: *const u8, k: usize, out: *mut u8, m: usize) -> u64;
     fn aspda_restrict(s: *const u8, k: usize, out: *mut u8, m: usize) -> u64;
 }
 
