@@ -1,9 +1,10 @@
 /* Yuldravn's functions for C. Link target/staticlib/libaspda.a (made by `rt staticlib aspda`).
  *
  * Every function answers one 64-bit word. A refusal is 2^63 + number * 2^32 + place, with document 01's number and the
- * byte offset of its place; all else is below 2^63. A pointer comes with its length and is never null; the slices of one
- * call do not overlap. The functions read and write nothing but the slices that they are lent and their stack (at most
- * 200 KiB of arrays, in the checks), keep no state and take no other memory.
+ * byte offset of its place; all else is below 2^63. A pointer comes with its length and is never null; the slice that a
+ * call writes to overlaps none of the others. The functions read and write nothing but the slices that they are lent and
+ * their stack (220 KiB in the check of a plain program, 70 KiB in extend, 24 KiB in the check of a source, 1 KiB elsewhere),
+ * keep no state and take no other memory.
  */
 #ifndef ASPDA_H
 #define ASPDA_H

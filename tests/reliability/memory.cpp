@@ -271,7 +271,8 @@ void visit_deepest(const Visit &visit)
 // What README and the header promise, with room for frames beside the arrays.
 std::size_t most_stack(unsigned operation)
 {
-    if (calls::is_check(operation)) return 224 << 10;
+    if (operation == calls::check_source) return 28 << 10;
+    if (operation == calls::check_plain) return 224 << 10;
     return operation == calls::extend ? 72 << 10 : 4 << 10;
 }
 

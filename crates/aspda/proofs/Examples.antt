@@ -20,9 +20,11 @@ use Rattle.record.specs.Reading.{literalsAt, optionsOf, defeasibleRule, ruleOf,
 use Rattle.litset.specs.Layout.{encodedSet}
 use Rattle.litset.specs.Reading.{membersAt, setShape, parsedSet}
 use Rattle.translate.specs.Translate.{translatedBytes, translated}
-use Rattle.translate.specs.Filter.{inputSize, printed, filtered}
-use Rattle.extend.specs.Extend.{derivedMarks, ruleMarks, marksFrom, inserted, sorted, extensionList, extensionBytes, extended}
-use Rattle.verdict.specs.Check.{found, verdictOf, witness, checkedOf, checked}
+use Rattle.printing.specs.Filter.{inputSize, printed, filtered}
+use Rattle.marks.specs.Marks.{derivedMarks, ruleMarks, marksFrom}
+use Rattle.extend.specs.Extend.{inserted, sorted, extensionList, extensionBytes, extended}
+use Rattle.judge.specs.Verdict.{verdictOf, witness}
+use Rattle.verdict.specs.Check.{found, checkedOf, checked}
 use Rattle.aspda.specs.Examples.{Says, m3, m3-literals, m3-answer-sets, examples, AllSay}
 
 exactly-four : T (exactly m3 m3-literals m3-answer-sets)

@@ -48,12 +48,14 @@ use Rattle.quotient.specs.Quotient.{quotientProgram, quotientBytes, quotiented}
 use Rattle.quotient.proofs.Laws.Plain.{Within, quotient-read, source-within, plain-within}
 use Rattle.extend.proofs.Laws.Extend.{extension-list, extension-ascending-form}
 use Rattle.extend.proofs.Laws.Outcome.{extendable-source}
-use Rattle.extend.proofs.Laws.Added.{restriction-extension}
-use Rattle.extend.proofs.Laws.Restriction.{restriction-set}
-use Rattle.verdict.specs.declared.Verdict.{Verdict}
-use Rattle.verdict.specs.declared.Verdict.the-variants.{Yes}
+use Rattle.extend.proofs.Laws.Added.{extension-marks}
+use Rattle.restrict.specs.Restrict.{restrictionList}
+use Rattle.restrict.proofs.Laws.Restriction.{restriction-joined, restriction-set}
+use Rattle.judge.specs.declared.Verdict.{Verdict}
+use Rattle.judge.specs.declared.Verdict.the-variants.{Yes}
 use Rattle.verdict.specs.declared.Check.the-variants.{Found}
-use Rattle.verdict.specs.Check.{found, verdictOf, witness, Checked, checkedOf, checked}
+use Rattle.judge.specs.Verdict.{verdictOf, witness}
+use Rattle.verdict.specs.Check.{found, Checked, checkedOf, checked}
 use Rattle.aspda.specs.Claims.{Reading, Quotients, Quotient, Extending, Checks, Checking, Translates, Translating}
 
 pub reading : Reading
@@ -101,7 +103,7 @@ extending =
     record {
       extends = λ b p ls bytes read. extension-list source extendable-source p (extend-kept b p bytes read) ls;
       ascends = λ k p ls bytes read. extension-ascending-form source extendable-source source-kinds p ls (set-taken k ls bytes read) (keeps-set-ascending source (source .literals) ls (set-kept k ls bytes read));
-      returns = λ k p ls bytes read. restriction-extension p ls (set-source k ls bytes read);
+      returns = λ k p ls bytes read. let w = extension-marks p ls in ap restrictionList (w .1) ∙ restriction-joined ls (w .0) (set-source k ls bytes read) (w .2);
       restricts = restriction-set;
     }
 

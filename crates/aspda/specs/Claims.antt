@@ -30,10 +30,11 @@ use Rattle.litset.specs.Reading.{parsedSet}
 use Rattle.translate.specs.Translate.{translated}
 use Rattle.quotient.specs.Quotient.{quotientProgram, quotiented}
 use Rattle.extend.specs.Extend.{extensionList}
-use Rattle.extend.specs.Restrict.{restrictionList}
-use Rattle.verdict.specs.declared.Verdict.the-variants.{Yes}
+use Rattle.restrict.specs.Restrict.{restrictionList}
+use Rattle.judge.specs.declared.Verdict.the-variants.{Yes}
 use Rattle.verdict.specs.declared.Check.the-variants.{Found}
-use Rattle.verdict.specs.Check.{verdictOf, witness, checked}
+use Rattle.judge.specs.Verdict.{verdictOf, witness}
+use Rattle.verdict.specs.Check.{checked}
 
 -- demand 1, accepted half: reading in a form accepts exactly the encodings of programs within the form's limits
 abbrev pub Reads : Limits → Type 0

@@ -21,10 +21,10 @@ use Rattle.record.specs.Result.{accepted}
 use Rattle.record.specs.Layout.{encodedProgram}
 use Rattle.record.specs.Reading.{parsed}
 use Rattle.litset.specs.Layout.{encodedSet}
-use Rattle.translate.specs.Filter.{filtered}
+use Rattle.printing.specs.Filter.{filtered}
 use Rattle.extend.specs.Extend.{extended}
-use Rattle.verdict.specs.declared.Verdict.{Verdict}
-use Rattle.verdict.specs.declared.Verdict.the-variants.{Clash, Broken, Smaller, Yes}
+use Rattle.judge.specs.declared.Verdict.{Verdict}
+use Rattle.judge.specs.declared.Verdict.the-variants.{Clash, Broken, Smaller, Yes}
 use Rattle.verdict.specs.declared.Check.the-variants.{Found}
 use Rattle.verdict.specs.Check.{checked}
 

@@ -1,5 +1,6 @@
 // Answers as 64-bit words.
 
+use judge::Verdict;
 use record::Extent;
 use record::Reading;
 use record::Refusal;
@@ -7,7 +8,6 @@ use record::Shown;
 use record::Written;
 use record::number::reason_number;
 use verdict::Check;
-use verdict::Verdict;
 ghost use mathlib.Core.Path.{_≡_};
 ghost use Rattle.aspda.specs.Words.{refusalWord, readingWord, writtenWord, extentWord, shownWord, ShortPlace, ShortExtent, ShortReading, ShortWritten, ShortShown, ShortVerdict, ShortCheck, verdictWord, checkWord};
 

@@ -1,5 +1,5 @@
 -- The clause of one rule: what is left of it in the quotient, over the positions of a set's literals (01, "Check").
--- In order: the options that are left of a record, and their positions; the clause of a remainder; the clause of a record.
+-- In order: literals and their positions; the clause of a remainder; the clause of a record.
 -- Assumes nothing.
 use Prim.Native.Nat.{ℕ, _+_, _*_}
 use mathlib.Core.Bool.{cond}
@@ -11,9 +11,8 @@ use Rattle.literal.specs.declared.Literal.{Literal}
 use Rattle.literal.specs.Order.{key}
 use Rattle.semantics.specs.Set.{LiteralSet, all}
 use Rattle.semantics.specs.Rule.{Remainder}
-use Rattle.semantics.specs.Meaning.{undefeated}
-use Rattle.litset.specs.Keys.{hasKey, keySet, anyKey}
-use Rattle.emit.specs.Options.{tagAt, optionsAt}
+use Rattle.litset.specs.Keys.{hasKey, anyKey}
+use Rattle.remains.specs.Left.{leftAt}
 use Rattle.clauses.specs.declared.Left.{Left}
 use Rattle.clauses.specs.declared.Clause.{Clause}
 use Rattle.clauses.specs.Position.{keyMask, keysAt, union}
@@ -22,11 +21,7 @@ use Rattle.clauses.specs.Position.{keyMask, keysAt, union}
 abbrev pub literalMask : List ℕ → ℕ → Literal → ℕ
 literalMask s n l = keyMask s n (key l)
 
--- the options that are left of the m from `at` on in the record that starts t, by the set of s's n literals
-unfoldable pub leftAt : List ℕ → List ℕ → ℕ → ℕ → ℕ → List Literal
-leftAt t s n at m = undefeated (tagAt t) (optionsAt t at m) (keySet s n)
-
--- how many they are, and their positions
+-- how many literals there are, and their positions
 unfoldable pub leftOf : List ℕ → ℕ → List Literal → Left
 leftOf s n ls = record { count = length ls; mask = union (literalMask s n) ls }
 

@@ -1,39 +1,19 @@
 -- The extension as bytes (01, "Extend"): as quotient, and an A: record.
--- In order: the marks that rules add, in rule order; ascending without duplicates; the extension as a list; as bytes.
+-- In order: ascending without duplicates; the extension as a list; as bytes. Not here: the marks (`marks`).
 -- Assumes nothing.
-use Prim.Native.Nat.{ℕ, _+_}
-use mathlib.Core.Bool.{true, false, cond, not, _&&_}
+use Prim.Native.Nat.{ℕ}
+use mathlib.Core.Bool.{true, false}
 use mathlib.Core.List.{List, [], _∷_, _++_}
 use Rattle.literal.specs.declared.Limits.{Limits}
-use Rattle.literal.specs.declared.Tag.{Tag}
-use Rattle.literal.specs.declared.SignedAtom.{SignedAtom}
 use Rattle.literal.specs.declared.Literal.{Literal}
-use Rattle.literal.specs.declared.Literal.the-variants.{Signed, Defeated, Derived}
 use Rattle.literal.specs.Order.{before}
-use Rattle.semantics.specs.Set.{LiteralSet, setOf}
-use Rattle.semantics.specs.Rule.{Rule, strict, defeasible, Program}
-use Rattle.semantics.specs.Translation.{ruleDefeated}
-use Rattle.semantics.specs.Extension.{defeatedRule}
+use Rattle.semantics.specs.Set.{setOf}
+use Rattle.semantics.specs.Rule.{Program}
 use Rattle.record.specs.Result.{Result, accepted, andThen, Outcome, delivered}
 use Rattle.record.specs.Reading.{parsed}
 use Rattle.litset.specs.Layout.{encodedSet}
 use Rattle.litset.specs.Reading.{parsedSet}
-
--- derived (t, a) for each option a that is in s and not defeated
-unfoldable pub derivedMarks : Tag → List SignedAtom → LiteralSet → List Literal
-derivedMarks t [] s = []
-derivedMarks t (a ∷ h) s = cond (s (Signed a) && not (s (Defeated t a))) (Derived t a ∷ derivedMarks t h s) (derivedMarks t h s)
-
--- what rule number n adds: its derivation marks, and rule-defeated n where all its options are defeated
-unfoldable pub ruleMarks : ℕ → Rule → LiteralSet → List Literal
-ruleMarks n (strict h b c) s = []
-ruleMarks n (defeasible t h b c) s =
-    derivedMarks t h s ++ cond (defeatedRule s (defeasible t h b c)) (ruleDefeated n ∷ []) []
-
--- what a program whose first rule has number n adds
-unfoldable pub marksFrom : ℕ → Program → LiteralSet → List Literal
-marksFrom n [] s = []
-marksFrom n (r ∷ p) s = ruleMarks n r s ++ marksFrom (n + 1) p s
+use Rattle.marks.specs.Marks.{marksFrom}
 
 -- an ascending list with one literal more, once
 unfoldable pub inserted : Literal → List Literal → List Literal

@@ -1,3 +1,2 @@
 pub mod Extend
-pub mod Marks
-pub mod Restrict
+pub mod Extending

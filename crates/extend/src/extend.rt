@@ -1,6 +1,5 @@
 // The extension of a source set: the program and the set are read, the marks gathered and sorted, and the record written.
 
-use crate::marks::collect_marks;
 use emit::copy::copy;
 use keys::sort::sort_keys;
 use keys::write::write_keys;
@@ -11,6 +10,7 @@ use litset::answer::refused_program;
 use litset::answer::refused_set;
 use litset::header::write_set_header;
 use litset::read::read_set;
+use marks::marks::collect_marks;
 use record::Reading;
 use record::Reason;
 use record::Refusal;
@@ -27,8 +27,10 @@ ghost use Rattle.record.specs.Meets.{Meets};
 ghost use Rattle.keys.specs.Keys.{sortedKeys, Sorted};
 ghost use Rattle.keys.specs.Bytes.{Fitting};
 ghost use Rattle.litset.specs.Keys.{Ascends, keySet};
-ghost use Rattle.extend.specs.Extend.{marksFrom, extended};
-ghost use Rattle.extend.specs.Marks.{most, Marking, Extendable, Extending, joined};
+ghost use Rattle.marks.specs.Marks.{marksFrom};
+ghost use Rattle.marks.specs.Collect.{Marking};
+ghost use Rattle.extend.specs.Extend.{extended};
+ghost use Rattle.extend.specs.Extending.{most, Extendable, Extending, joined};
 
 // The marks that a source's rules may add: no more than a rule has options.
 const MOST: usize = 4096;

@@ -1,5 +1,3 @@
-// The extension of a source set, and the restriction of a plain set.
+// The extension of a source set.
 
 pub mod extend;
-pub mod marks;
-pub mod restrict;

@@ -1,8 +1,8 @@
 // The filter program: a source on standard input, its translation or an R: record on standard output.
-// All that matters is `translate::filter::filter_translate`, a proved function on bytes; this program only reads and writes.
+// All that matters is `printing::filter::filter_translate`, a proved function on bytes; this program only reads and writes.
 use libc::STDIN_FILENO;
 use libc::STDOUT_FILENO;
-use translate::filter::filter_translate;
+use printing::filter::filter_translate;
 
 fn main() {
     // One byte above the source limit, so that excess shows as refusal 1.

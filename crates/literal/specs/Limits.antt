@@ -1,14 +1,22 @@
 -- Each form's row of limits (01, "Source form and plain form"), and the largest set that is checked.
 -- Every other definition takes a `Limits` and names no number of this table.
 -- Assumes nothing.
+use Prim.Native.Nat.{ℕ}
 use mathlib.Core.Bool.{true, false}
 use Rattle.literal.specs.declared.Limits.{Limits}
+
+-- the rules of the largest programs; arrays with a place for each rule have this length
+abbrev pub sourceRules : ℕ
+sourceRules = 256
+
+abbrev pub plainRules : ℕ
+plainRules = 12800
 
 unfoldable pub source : Limits
 source =
     record {
       length = 63236;
-      rules = 256;
+      rules = sourceRules;
       heads = 16;
       positives = 16;
       nafs = 16;
@@ -25,7 +33,7 @@ unfoldable pub plain : Limits
 plain =
     record {
       length = 317444;
-      rules = 12800;
+      rules = plainRules;
       heads = 16;
       positives = 16;
       nafs = 17;

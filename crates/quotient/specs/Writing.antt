@@ -1,6 +1,5 @@
 -- What the writers of a quotient speak of: what is left of one rule, as bytes (01, "Quotient").
--- In order: the bytes of a remainder, and their number; the quotient; the options that are left of a record; what is left
--- of a record; limits for which a quotient is made.
+-- In order: the bytes of a remainder, and their number; the quotient; what is left of a record; limits for which a quotient is made.
 -- Assumes nothing.
 use Prim.Native.Nat.{ℕ, _+_, _*_, _<_}
 use mathlib.Core.Path.{_≡_}
@@ -13,11 +12,11 @@ use Rattle.literal.specs.declared.Limits.{Limits}
 use Rattle.literal.specs.declared.Literal.{Literal}
 use Rattle.semantics.specs.Set.{LiteralSet}
 use Rattle.semantics.specs.Rule.{Program, Remainder}
-use Rattle.semantics.specs.Meaning.{undefeated, quotient}
+use Rattle.semantics.specs.Meaning.{quotient}
 use Rattle.record.specs.Layout.{encodedLiterals, encodedRule, encodedProgram}
-use Rattle.litset.specs.Keys.{keySet, anyKey}
+use Rattle.litset.specs.Keys.{anyKey}
 use Rattle.emit.specs.Header.{header}
-use Rattle.emit.specs.Options.{tagAt, optionsAt}
+use Rattle.remains.specs.Left.{leftAt}
 use Rattle.quotient.specs.Quotient.{remainderRule}
 
 -- the record of what is left of a rule, if anything is
@@ -33,10 +32,6 @@ remainderCount (some q) = 1
 -- the quotient of a program by a set, as a program's bytes
 unfoldable pub quotientOf : Program → LiteralSet → List ℕ
 quotientOf p s = encodedProgram (map remainderRule (quotient p s))
-
--- the options that are left of the n from `at` on in the record that starts t, by the set of k's m literals
-unfoldable pub leftAt : List ℕ → List ℕ → ℕ → ℕ → ℕ → List Literal
-leftAt t k m at n = undefeated (tagAt t) (optionsAt t at n) (keySet k m)
 
 -- what is left of the record that starts t where no naf literal is in the set: of a strict rule all but its naf literals
 unfoldable pub strictBytes : List ℕ → List ℕ

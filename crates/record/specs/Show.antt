@@ -3,7 +3,7 @@
 use Prim.Native.Nat.{ℕ, zero, suc, _+_}
 use mathlib.Core.Bool.{true, false}
 use mathlib.Core.List.{List, [], _∷_}
-use lib.ListN.{length, take, drop}
+use lib.ListN.{length}
 use Rattle.literal.specs.declared.Limits.{Limits}
 use Rattle.literal.specs.Literal.{inRange}
 use Rattle.semantics.specs.Rule.{Program}
@@ -39,6 +39,3 @@ shown F s n =
 unfoldable pub shownExtent : Shown → Extent
 shownExtent (At e) = e
 shownExtent (Refused x) = record { start = 0; size = 0 }
-
-unfoldable pub shownPart : Limits → List ℕ → ℕ → List ℕ
-shownPart F s n = take (shownExtent (shown F s n) .size) (drop (shownExtent (shown F s n) .start) s)

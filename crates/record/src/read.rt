@@ -13,7 +13,7 @@ use literal::form::Plain;
 use literal::form::Source;
 ghost use mathlib.Core.Path.{_≡_};
 ghost use Prim.Native.Nat.{_+_, _*_, _≤_, _<_};
-ghost use lib.ListN.{length, getD};
+ghost use lib.ListN.{length};
 ghost use Rattle.literal.specs.Limits.{source, plain};
 ghost use Rattle.semantics.specs.Form.{keepsCounts};
 ghost use Rattle.record.specs.Refusal.{refusal};

@@ -1,4 +1,2 @@
-pub mod Measure
 pub mod Translate
 pub mod Pass
-pub mod Filter

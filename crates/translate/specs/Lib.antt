@@ -1,3 +1,2 @@
 pub mod Translate
-pub mod Filter
-pub mod Measure
+pub mod Pass

@@ -1,5 +1,3 @@
-// Translating a source program into a plain one, and what the filter program prints.
+// Translating a source program into a plain one.
 
-pub mod filter;
-pub mod measure;
 pub mod pass;

@@ -1,6 +1,5 @@
 // Translating: the source is measured, and then each rule's translation is written, in one pass each.
 
-use crate::measure::measure_source;
 use emit::records::write_end;
 use expand::rules::count_rules;
 use expand::rules::measure_rule;
@@ -8,6 +7,7 @@ use expand::rules::write_rule;
 use literal::Limits;
 use literal::RuleNo;
 use literal::form::Source;
+use measure::measure::measure_source;
 use record::Reason;
 use record::Refusal;
 use record::Written;
@@ -15,7 +15,8 @@ use record::show::record_size;
 ghost use mathlib.Core.Path.{_≡_};
 ghost use Rattle.literal.specs.Limits.{source};
 ghost use Rattle.translate.specs.Translate.{translated};
-ghost use Rattle.translate.specs.Measure.{Writable, Translatable};
+ghost use Rattle.measure.specs.Measure.{Writable};
+ghost use Rattle.translate.specs.Pass.{Translatable};
 ghost use Rattle.record.specs.Meets.{Meets};
 
 // The second pass: the translation of a source that was measured, in the form that `lim` gives. Each byte is written once.

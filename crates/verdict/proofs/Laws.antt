@@ -1,13 +1,3 @@
-pub mod Clash
-pub mod Opposed
-pub mod Witness
-pub mod Before
-pub mod Decide
-pub mod Distinct
-pub mod Finding
-pub mod Meant
-pub mod Built
-pub mod Judge
 pub mod Found
 pub mod Check
 pub mod Forms

@@ -1,21 +1,19 @@
 -- The check of a proposed set (01, "Check"), in either form: its answer, and what it leaves in the lent output.
--- In order: the program and the set that are checked; the verdict of a finding; the witness; the check.
--- The finding itself is `Finding` of `semantics`. Assumes nothing.
+-- In order: the program and the set that are checked; the check. Not here: the finding (`semantics`), its verdict and witness
+-- (`judge`). Assumes nothing.
 use Prim.Native.Nat.{ℕ}
-use mathlib.Core.List.{List, []}
+use mathlib.Core.List.{List}
 use lib.Dec.{ltb}
 use lib.ListN.{length}
 use Rattle.buffer.specs.Write.{write}
 use Rattle.literal.specs.declared.Limits.{Limits}
-use Rattle.semantics.specs.Verdict.{Finding, clash, broken, smaller, answerSet, finding}
+use Rattle.semantics.specs.Verdict.{Finding, finding}
 use Rattle.record.specs.declared.Reason.the-variants.{OutputShort}
 use Rattle.record.specs.Refusal.{refusal}
 use Rattle.record.specs.Result.{Result, accepted, refused, andThen, refuseIf}
 use Rattle.record.specs.Reading.{parsed}
-use Rattle.litset.specs.Layout.{encodedSet}
 use Rattle.litset.specs.Reading.{parsedSet}
-use Rattle.verdict.specs.declared.Verdict.{Verdict}
-use Rattle.verdict.specs.declared.Verdict.the-variants.{Clash, Broken, Smaller, Yes}
+use Rattle.judge.specs.Verdict.{verdictOf, witness}
 use Rattle.verdict.specs.declared.Check.{Check}
 use Rattle.verdict.specs.declared.Check.the-variants.{Found, Refused}
 
@@ -26,20 +24,6 @@ found F s k out =
     andThen (parsed F s) (λ p.
     andThen (parsedSet F (F .checked) k) (λ ls.
     refuseIf (ltb (length out) (length k)) (refusal OutputShort 0) (accepted (finding p ls))))
-
--- the verdict, with its position, rule or length
-unfoldable pub verdictOf : Finding → Verdict
-verdictOf (clash k) = Clash k
-verdictOf (broken n) = Broken n
-verdictOf (smaller ls) = Smaller (length (encodedSet ls))
-verdictOf answerSet = Yes
-
--- what it writes: the smaller model's record; other verdicts write nothing
-unfoldable pub witness : Finding → List ℕ
-witness (clash k) = []
-witness (broken n) = []
-witness (smaller ls) = encodedSet ls
-witness answerSet = []
 
 -- the answer of a check, and what the lent output holds then
 pub record Checked : Type 0 where

@@ -1,5 +1,2 @@
 pub mod Check
-pub mod Clash
-pub mod Witness
-pub mod Decide
 pub mod Meets

@@ -10,18 +10,17 @@ use Rattle.record.specs.Refusal.{refusal}
 use Rattle.litset.specs.declared.SetReading.{SetReading}
 use Rattle.verdict.specs.declared.Check.{Check}
 use Rattle.verdict.specs.Check.{Checked}
-use Rattle.verdict.specs.Decide.{clauseRoom}
 
 -- the answer r and the output, as it is at the end, are those of the check
 pub record MeetsCheck (o : Checked) (r : Check) (out : List ℕ) : Type 0 where
   pub answer : r ≡ o .answer
   pub buffer : out ≡ o .buffer
 
--- a form whose figures fit two bytes, with no more rules than there is room for clauses, and no more literals in a set
--- that is checked than a mask has positions
-pub record Checkable (F : Limits) : Type 0 where
+-- a form whose figures fit two bytes, with no more rules than b bodies and h heads of clauses there is room for, and no more
+-- literals in a set that is checked than a mask has positions
+pub record Checkable (F : Limits) (b h : ℕ) : Type 0 where
   pub sized : (F .tags < 65536) × (F .atoms < 65536) × (F .numbers < 65536)
-  pub rules : F .rules ≤ clauseRoom
+  pub rules : (F .rules ≤ b) × (F .rules ≤ h)
   pub checked : F .checked ≤ 64
 
 -- what the check answers where reading the program, or the set, refuses; where reading answers a number, it goes on

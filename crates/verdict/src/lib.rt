@@ -1,16 +1,6 @@
 // The check of a proposed set.
+use judge::Verdict;
 use record::Refusal;
-
-// What a check finds. A smaller model stands as an A: record at the start of the lent output.
-pub enum Verdict {
-    // The position, from 1, of the first literal whose opposite is in the set.
-    Clash(usize),
-    // The number of the first rule whose remainder in the quotient does not hold.
-    Broken(usize),
-    // The length in bytes of the first smaller model's record.
-    Smaller(usize),
-    Yes,
-}
 
 // What checking a set answers.
 pub enum Check {
@@ -18,8 +8,4 @@ pub enum Check {
     Refused(Refusal),
 }
 
-pub mod clash;
-pub mod decide;
-pub mod judge;
 pub mod proposed;
-pub mod witness;

@@ -187,7 +187,7 @@ pub fn quotient_plain<'o>(program: &[u8], set: &[u8], out: &'o mut [u8]) -> Resu
 pub const EXTENSION_BOUND: usize = 25_484;
 
 /// Writes the extension of a source's set: the set with its derivation and rule-defeated marks, a plain set.
-/// [`EXTENSION_BOUND`] bytes suffice. It uses more than 64 KiB of stack.
+/// [`EXTENSION_BOUND`] bytes suffice. It uses about 66 KiB of stack.
 ///
 /// M5 of document 01: two rules share tag 7, and the first one's option is defeated.
 ///
@@ -238,7 +238,7 @@ pub fn witness_bound(set: &[u8]) -> usize {
 /// Is the set an answer set of the source? `out` is at least as long as the set ([`witness_bound`]), whatever the
 /// verdict; only [`Verdict::Smaller`] writes to it.
 ///
-/// A check uses about 216 KiB of stack: a thread with less, say 128 KiB, is too small for it.
+/// It uses about 24 KiB of stack.
 ///
 /// M6 to M9 of document 01:
 ///
@@ -270,8 +270,8 @@ pub fn check_source<'o>(program: &[u8], set: &[u8], out: &'o mut [u8]) -> Result
     Verdict::from_word(exports::check_source(program, set, out), out)
 }
 
-/// Is the set, of plain literals, an answer set of the plain program? As [`check_source`], its stack too: about
-/// 216 KiB.
+/// Is the set, of plain literals, an answer set of the plain program? As [`check_source`], but it uses about
+/// 220 KiB of stack: a thread with less, say 128 KiB, is too small for it.
 ///
 /// ```
 /// let program = b"S:\0\0\x01\0\0\x04\0\x07\0\x01E:\0\x01"; // derived (7, 1)

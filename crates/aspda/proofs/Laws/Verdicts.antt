@@ -2,15 +2,14 @@
 -- In order: parts; findings; checks. Assumes nothing.
 use Prim.Native.Nat.{ℕ, _+_, _*_, _≤_, _<_}
 use native.Mathlib.Omega.{arith}
-use mathlib.Core.Path.{_≡_, refl, sym, _∙_, ap, subst}
-use mathlib.Core.List.{List, [], _∷_, _++_}
+use mathlib.Core.Path.{_≡_, refl, sym, ap, subst}
+use mathlib.Core.List.{List, _∷_}
 use mathlib.Core.Bool.{Bool, true, false}
-use lib.Dec.{T, leb, ltb}
+use lib.Dec.{leb, ltb}
 use lib.ListN.{length, length-append}
 use Rattle.buffer.specs.Bytes.{Bytes}
 use Rattle.literal.specs.declared.Limits.{Limits}
 use Rattle.literal.specs.declared.Literal.{Literal}
-use Rattle.semantics.specs.Set.{setOf}
 use Rattle.semantics.specs.Rule.{Program}
 use Rattle.semantics.specs.Form.{keepsRules}
 use Rattle.semantics.specs.Verdict.{Finding, clash, broken, smaller, answerSet, finding}
@@ -18,7 +17,6 @@ use Rattle.semantics.proofs.Laws.Tests.{first}
 use Rattle.semantics.proofs.Laws.Form.{keeps-count}
 use Rattle.semantics.proofs.Laws.Part.{Part, nil, absent, present}
 use Rattle.semantics.proofs.Laws.Verdict.{finding-clash, finding-broken, finding-smaller}
-use Rattle.record.specs.declared.Refusal.{Refusal}
 use Rattle.record.specs.declared.Reason.the-variants.{OutputShort}
 use Rattle.record.specs.Refusal.{refusal}
 use Rattle.record.specs.Result.{Result, accepted, refused, andThen, refuseIf}
@@ -31,7 +29,8 @@ use Rattle.litset.specs.Reading.{parsedSet}
 use Rattle.litset.proofs.Laws.Reading.{parsed-set-sound, keeps-set-most, length-encoded-set}
 use Rattle.litset.proofs.Laws.Places.{parsed-set-placed}
 use Rattle.verdict.specs.declared.Check.{Check}
-use Rattle.verdict.specs.Check.{found, verdictOf, checkedOf, checked}
+use Rattle.judge.specs.Verdict.{verdictOf}
+use Rattle.verdict.specs.Check.{found, checkedOf, checked}
 use Rattle.aspda.specs.Words.{ShortVerdict, ShortCheck}
 
 -- a part is no longer than its list

@@ -30,7 +30,7 @@ use Rattle.litset.specs.Reading.{parsedSet}
 use Rattle.litset.proofs.Laws.Places.{parsed-set-placed}
 use Rattle.quotient.specs.Quotient.{quotientProgram, quotientBytes, quotiented}
 use Rattle.extend.specs.Extend.{extensionList, extensionBytes, extended}
-use Rattle.extend.specs.Restrict.{restrictionList, restrictionBytes, restricted}
+use Rattle.restrict.specs.Restrict.{restrictionList, restrictionBytes, restricted}
 use Rattle.aspda.specs.Words.{ShortReading, ShortWritten, ShortShown}
 
 -- a place within a larger bound

@@ -8,7 +8,7 @@ use native.Mathlib.Omega.{arith}
 use lib.Arith.{digits-div, digits-mod}
 use lib.ListN.{take, drop}
 use lib.Seq.{getD-drop}
-use Rattle.buffer.specs.Bytes.{Bytes, twoBytes, fourBytes, number}
+use Rattle.buffer.specs.Bytes.{Bytes, twoBytes, number}
 
 -- no byte
 pub bytes-nil : Bytes []
@@ -41,12 +41,6 @@ bytes-append (b ∷ bs) cs t u = bytes-cons (bs ++ cs) (t 0) (bytes-append bs cs
 -- the bytes of a field of two are bytes
 pub bytes-twoBytes : (n : ℕ) → n < 65536 → Bytes (twoBytes n)
 bytes-twoBytes n h = bytes-cons (n % 256 ∷ []) (omega arith) (bytes-cons [] (omega arith) bytes-nil)
-
--- and so are those of a field of four
-pub bytes-fourBytes : (n : ℕ) → n < 4294967296 → Bytes (fourBytes n)
-bytes-fourBytes n h =
-    bytes-append (twoBytes (n / 65536)) (twoBytes (n % 65536)) (bytes-twoBytes (n / 65536) (omega arith))
-    (bytes-twoBytes (n % 65536) (omega arith))
 
 -- a number's two bytes spell it
 pub number-twoBytes : (n : ℕ) → number (n / 256) (n % 256) ≡ n

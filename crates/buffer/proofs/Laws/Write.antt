@@ -1,17 +1,15 @@
--- Laws of `write`: the one file that unfolds it.
--- In order: nothing written; stores as a write; what stands up to the end of a write and behind it; a write behind a write;
--- the length, and bytes. Assumes nothing.
+-- Laws of `write`, which this file and `Before` alone unfold.
+-- In order: nothing written; stores as a write; what stands up to the end of a write and behind it; a write behind a write.
+-- Assumes nothing.
 use Prim.Native.Nat.{ℕ, _+_, _≤_, _<_}
 use mathlib.Core.Path.{_≡_, sym, _∙_}
 use mathlib.Core.List.{List, [], _∷_, _++_, append-assoc}
 use native.Mathlib.Nat.{add-zero, add-assoc}
 use native.Mathlib.Numerals.{towards-suc}
 use native.Mathlib.Omega.{arith}
-use lib.ListN.{length, take, drop, set, length-append, length-drop, take-append-drop}
+use lib.ListN.{length, take, drop, set, length-append, take-append-drop}
 use lib.Seq.{sets, sets-eq, take-at, drop-at, drop-drop, length-take-le}
-use Rattle.buffer.specs.Bytes.{Bytes}
 use Rattle.buffer.specs.Write.{write}
-use Rattle.buffer.proofs.Laws.Bytes.{bytes-take, bytes-drop, bytes-append}
 
 module _ (d : List ℕ) (at : ℕ) where
   -- nothing written is nothing changed
@@ -31,14 +29,6 @@ module _ (d : List ℕ) (at : ℕ) where
   -- the stores of two elements in a row are one write
   pub two-sets-write : (a b : ℕ) → at + 2 ≤ length d → set (set d at a) (at + 1) b ≡ write d at (a ∷ b ∷ [])
   two-sets-write a b h = simp towards-suc (sets-write (a ∷ b ∷ []) (omega arith))
-
-  -- and so are those of five
-  pub five-sets-write :
-      (a b c e f : ℕ) →
-      at + 5 ≤ length d →
-      set (set (set (set (set d at a) (at + 1) b) (at + 2) c) (at + 3) e) (at + 4) f ≡
-      write d at (a ∷ b ∷ c ∷ e ∷ f ∷ [])
-  five-sets-write a b c e f h = simp towards-suc (sets-write (a ∷ b ∷ c ∷ e ∷ f ∷ []) (omega arith))
 
   -- what is written stands between two parts of the list
   parts : (bs : List ℕ) → write d at bs ≡ take at d ++ (bs ++ drop (length bs) (drop at d))
@@ -68,19 +58,3 @@ module _ (d : List ℕ) (at : ℕ) (bs : List ℕ) (within : at ≤ length d) wh
   write-write cs =
       rw (parts (write d at bs) (at + length bs) cs, take-write, drop-write, parts d at (bs ++ cs))
       (simp (append-assoc, length-append, drop-drop, add-assoc))
-
--- a write within the list keeps its length
-pub length-write :
-    (d : List ℕ) (at : ℕ) (bs : List ℕ) →
-    at + length bs ≤ length d →
-    length (write d at bs) ≡ length d
-length-write d at bs h =
-    rw (front d at bs (omega arith))
-    (simp (length-append, length-drop, length-take-le at d (omega arith)) (omega arith))
-
--- bytes written over bytes are bytes
-pub bytes-write : (d : List ℕ) (at : ℕ) (bs : List ℕ) → Bytes d → Bytes bs → Bytes (write d at bs)
-unfolding write
-bytes-write d at bs h k =
-    bytes-append (take at d) (bs ++ drop (at + length bs) d) (bytes-take at d h)
-    (bytes-append bs (drop (at + length bs) d) k (bytes-drop (at + length bs) d h))

@@ -1,8 +1,7 @@
 -- The clause of a record, by the literals that stand in it.
--- In order: literals in a slice, and their keys; a record's naf literals, positive ones and head; its clause.
+-- In order: the keys of literals in a slice; a record's positive literals and head; its clause.
 -- Assumes nothing.
 use Prim.Native.Nat.{ℕ, _+_, _*_}
-use native.Mathlib.Omega.{arith}
 use mathlib.Core.Path.{_≡_, refl, sym, _∙_, ap, ap₂}
 use mathlib.Core.Bool.{cond}
 use mathlib.Core.List.{List, [], _∷_, _++_, map, append-assoc}
@@ -17,24 +16,13 @@ use Rattle.literal.proofs.Laws.Order.{keyAt-encoded}
 use Rattle.semantics.specs.Set.{any, all}
 use Rattle.semantics.proofs.Laws.Tests.{all-map}
 use Rattle.record.specs.Layout.{encodedLiterals}
-use Rattle.record.proofs.Laws.Layout.{encoded-literals-append, length-encoded-literals}
-use Rattle.litset.specs.Keys.{hasKey, keySet, anyKey}
-use Rattle.litset.proofs.Laws.Member.{any-key-literals}
-use Rattle.emit.proofs.Laws.Fields.{Fields}
+use Rattle.litset.specs.Keys.{hasKey, keySet}
+use Rattle.emit.proofs.Laws.Fields.{Fields, literals-first, literals-next}
+use Rattle.remains.proofs.Laws.Rule.{nafs-met}
 use Rattle.clauses.specs.Position.{keyMask, keysAt, union}
 use Rattle.clauses.specs.Rule.{literalMask, noClause, clauseWith, clauseAt}
 
--- literals that stand in a slice, and those behind them
-literals-first : (x rest : List ℕ) (hs ls : List Literal) → x ≡ encodedLiterals (hs ++ ls) ++ rest → x ≡ encodedLiterals hs ++ (encodedLiterals ls ++ rest)
-literals-first x rest hs ls e =
-    e ∙ ap (λ (y : List ℕ). y ++ rest) (encoded-literals-append hs ls) ∙ append-assoc (encodedLiterals hs) (encodedLiterals ls) rest
-
-literals-next : (t rest : List ℕ) (at : ℕ) (hs ls : List Literal) → drop at t ≡ encodedLiterals (hs ++ ls) ++ rest → drop (at + 5 * length hs) t ≡ encodedLiterals ls ++ rest
-literals-next t rest at hs ls e =
-    sym (drop-drop (5 * length hs) at t) ∙ ap (drop (5 * length hs)) (literals-first (drop at t) rest hs ls e)
-    ∙ drop-at (encodedLiterals hs) (encodedLiterals ls ++ rest) (5 * length hs) (length-encoded-literals hs)
-
--- their keys
+-- the keys of literals that stand in a slice
 keys-spelled : (t : List ℕ) (ls : List Literal) (at : ℕ) (rest : List ℕ) → drop at t ≡ encodedLiterals ls ++ rest → keysAt t at (length ls) ≡ map key ls
 unfolding keysAt encodedLiterals
 keys-spelled t [] at rest e = refl
@@ -48,15 +36,8 @@ unfolding union
 union-map f [] = refl
 union-map f (l ∷ ls) = ap (bitOr (f (key l))) (union-map f ls)
 
--- a record's naf literals, positive ones and head
+-- a record's positive literals and head
 module _ (t s : List ℕ) (n : ℕ) (letter tag : ℕ) (h b c : List Literal) (rest : List ℕ) (f : Fields t letter tag h b c rest) where
-  fields-nafs : anyKey s n (getD t 6 0) t (7 + 5 * (getD t 4 0 + getD t 5 0)) ≡ any (keySet s n) c
-  fields-nafs =
-      let place : 7 + 5 * (length h + length b) ≡ 7 + 5 * length h + 5 * length b = omega arith in
-      rw (f .nafs, f .heads, f .positives)
-      (any-key-literals s n t c (7 + 5 * (length h + length b)) rest
-      (ap (λ (i : ℕ). drop i t) place ∙ literals-next t rest (7 + 5 * length h) b c (literals-next t rest 7 h (b ++ c) (f .literals))))
-
   fields-positives : keysAt t (7 + 5 * getD t 4 0) (getD t 5 0) ≡ map key b
   fields-positives =
       rw (f .heads, f .positives)
@@ -67,7 +48,7 @@ module _ (t s : List ℕ) (n : ℕ) (letter tag : ℕ) (h b c : List Literal) (r
 
   pub clause-fields : clauseAt t s n ≡ cond (any (keySet s n) c) noClause (cond (all (keySet s n) b) (clauseWith t (union (literalMask s n) b) s n) noClause)
   unfolding clauseAt
-  clause-fields = rw (fields-nafs, fields-positives, all-map (hasKey s n) key b, union-map (keyMask s n) b)
+  clause-fields = rw (nafs-met t s n letter tag h b c rest f, fields-positives, all-map (hasKey s n) key b, union-map (keyMask s n) b)
 
   -- with the letter of a strict rule
   pub with-fields : (body : ℕ) → letter ≡ 0x53 → clauseWith t body s n ≡ record { count = 1; body = body; head = union (literalMask s n) h }

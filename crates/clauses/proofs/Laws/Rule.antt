@@ -11,7 +11,8 @@ use Rattle.litset.specs.Keys.{hasKey, anyKey}
 use Rattle.clauses.specs.declared.Positions.{Positions}
 use Rattle.clauses.specs.declared.Left.{Left}
 use Rattle.clauses.specs.Position.{keyMask, keysAt, union, positionsOf}
-use Rattle.clauses.specs.Rule.{leftAt, leftOf, noClause, clauseWith, clauseAt}
+use Rattle.remains.specs.Left.{leftAt}
+use Rattle.clauses.specs.Rule.{leftOf, noClause, clauseWith, clauseAt}
 use Rattle.clauses.proofs.Laws.Union.{positions-missing, positions-whole}
 
 module _ (t : List ℕ) (body : ℕ) (s : List ℕ) (n : ℕ) where

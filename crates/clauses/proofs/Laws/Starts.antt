@@ -2,12 +2,12 @@
 -- In order: a strict rule; a defeasible one, by the options that are left; whatever the rule. Assumes nothing.
 use Prim.Native.Nat.{ℕ}
 use native.Mathlib.Omega.{arith}
-use mathlib.Core.Path.{_≡_, refl, _∙_, ap, ap₂}
+use mathlib.Core.Path.{_≡_, refl, _∙_, ap}
 use mathlib.Core.Bool.{Bool, true, false, cond}
 use mathlib.Core.List.{List, [], _∷_, map}
 use mathlib.Core.Option.{none, some}
 use lib.Dec.{eqb}
-use lib.ListN.{length, getD}
+use lib.ListN.{length}
 use borrow.Author.Tests.{ne-eqb}
 use Rattle.literal.specs.declared.Tag.{Tag}
 use Rattle.literal.specs.declared.SignedAtom.{SignedAtom}
@@ -19,10 +19,10 @@ use Rattle.semantics.specs.Meaning.{undefeated, unlessEmpty, remainder}
 use Rattle.litset.specs.Keys.{keySet}
 use Rattle.emit.specs.Starts.{Starts}
 use Rattle.emit.proofs.Laws.Fields.{strict-fields, defeasible-fields}
-use Rattle.emit.proofs.Laws.Options.{rule-options, rule-tag}
+use Rattle.remains.proofs.Laws.Rule.{left-undefeated}
 use Rattle.clauses.specs.declared.Clause.{Clause}
 use Rattle.clauses.specs.Position.{union}
-use Rattle.clauses.specs.Rule.{literalMask, leftAt, noClause, clauseOf, clauseWith, clauseAt}
+use Rattle.clauses.specs.Rule.{literalMask, noClause, clauseOf, clauseWith, clauseAt}
 use Rattle.clauses.proofs.Laws.Record.{clause-fields, with-fields}
 
 module _ (t s : List ℕ) (n : ℕ) where
@@ -39,15 +39,10 @@ module _ (t s : List ℕ) (n : ℕ) where
       go true = refl
       go false = refl
 
-  -- the options that are left
-  left-starts : (g : Tag) (h : List SignedAtom) (b c : List Literal) → Starts t (defeasible g h b c) → leftAt t s n 7 (getD t 4 0) ≡ undefeated g h (keySet s n)
-  unfolding leftAt
-  left-starts g h b c w = ap₂ (λ (x : Tag) (os : List SignedAtom). undefeated x os (keySet s n)) (rule-tag t g h b c w) (rule-options t g h b c w)
-
   with-options : (g : Tag) (h : List SignedAtom) (b c : List Literal) → Starts t (defeasible g h b c) → (body : ℕ)
       → clauseWith t body s n ≡ cond (eqb (length (undefeated g h (keySet s n))) 0) noClause (record { count = 1; body = body; head = union (literalMask s n) (undefeated g h (keySet s n)) })
   unfolding clauseWith
-  with-options g h b c w body = rw (defeasible-fields t g h b c w .of-letter, left-starts g h b c w)
+  with-options g h b c w body = rw (defeasible-fields t g h b c w .of-letter, left-undefeated t s n g h b c w)
 
 -- the clause of options that are left
 option-clause : (u : LiteralSet) (f : Literal → ℕ) (b ls : List Literal)

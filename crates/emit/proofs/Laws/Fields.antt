@@ -51,12 +51,24 @@ module _ (s : List ℕ) where
   unfolding encodedRule
   defeasible-fields t h b c w = subst (λ (x : List ℕ). Fields x 0x44 (t .0) (map Signed h) b c (w .rest)) (sym (w .bytes)) (fields 0x44 (t .0) (map Signed h) b c (w .rest))
 
--- a run of literals behind others
+-- literals that stand in a slice, and those behind them
+pub literals-first : (x rest : List ℕ) (hs ls : List Literal) → x ≡ encodedLiterals (hs ++ ls) ++ rest → x ≡ encodedLiterals hs ++ (encodedLiterals ls ++ rest)
+literals-first x rest hs ls e =
+    e ∙ ap (λ (y : List ℕ). y ++ rest) (encoded-literals-append hs ls) ∙ append-assoc (encodedLiterals hs) (encodedLiterals ls) rest
+
+pub literals-next : (s rest : List ℕ) (at : ℕ) (hs ls : List Literal) → drop at s ≡ encodedLiterals (hs ++ ls) ++ rest → drop (at + 5 * length hs) s ≡ encodedLiterals ls ++ rest
+literals-next s rest at hs ls e =
+    sym (drop-drop (5 * length hs) at s) ∙ ap (drop (5 * length hs)) (literals-first (drop at s) rest hs ls e)
+    ∙ drop-at (encodedLiterals hs) (encodedLiterals ls ++ rest) (5 * length hs) (length-encoded-literals hs)
+
+-- a run of literals before others, and behind others
+pub literals-before : (x rest : List ℕ) (hs ls : List Literal) → x ≡ encodedLiterals (hs ++ ls) ++ rest → take (5 * length hs) x ≡ encodedLiterals hs
+literals-before x rest hs ls e =
+    ap (take (5 * length hs)) (literals-first x rest hs ls e) ∙ take-at (encodedLiterals hs) (encodedLiterals ls ++ rest) (5 * length hs) (length-encoded-literals hs)
+
 pub literals-behind : (s : List ℕ) (hs ls : List Literal) (rest : List ℕ) → drop 7 s ≡ encodedLiterals (hs ++ ls) ++ rest → take (5 * length ls) (drop (7 + 5 * length hs) s) ≡ encodedLiterals ls
 literals-behind s hs ls rest e =
-    let whole = e ∙ ap (λ (x : List ℕ). x ++ rest) (encoded-literals-append hs ls) ∙ append-assoc (encodedLiterals hs) (encodedLiterals ls) rest in
-    let part = sym (drop-drop (5 * length hs) 7 s) ∙ ap (drop (5 * length hs)) whole ∙ drop-at (encodedLiterals hs) (encodedLiterals ls ++ rest) (5 * length hs) (length-encoded-literals hs) in
-    ap (take (5 * length ls)) part ∙ take-at (encodedLiterals ls) rest (5 * length ls) (length-encoded-literals ls)
+    ap (take (5 * length ls)) (literals-next s rest 7 hs ls e) ∙ take-at (encodedLiterals ls) rest (5 * length ls) (length-encoded-literals ls)
 
 -- a record with tag 0 is a header and literals
 pub strict-pieces : (h b c : List Literal) → header (length h) (length b) (length c) ++ encodedLiterals (h ++ (b ++ c)) ≡ encodedRule (strict h b c)

@@ -12,7 +12,7 @@ use Rattle.buffer.proofs.Laws.Next.{write-behind}
 use Rattle.literal.specs.declared.Tag.{Tag}
 use Rattle.literal.specs.declared.SignedAtom.{SignedAtom}
 use Rattle.literal.specs.declared.Literal.{Literal}
-use Rattle.literal.specs.declared.Literal.the-variants.{Signed, Defeated, Derived}
+use Rattle.literal.specs.declared.Literal.the-variants.{Signed}
 use Rattle.literal.specs.Literal.{encoded}
 use Rattle.literal.proofs.Laws.Literal.{length-encoded}
 use Rattle.semantics.specs.Rule.{Program}
@@ -70,11 +70,6 @@ module _ (t : Tag) (a : SignedAtom) where
   pub length-derived : length (encodedRule (derivedIfHolds t a)) ≡ 22
   unfolding encodedRule ruleRecord derivedIfHolds encodedLiterals encoded
   length-derived = refl
-
-  -- (6) has 17
-  pub length-never-both : length (encodedRule (neverBoth t a)) ≡ 17
-  unfolding encodedRule ruleRecord neverBoth encodedLiterals encoded
-  length-never-both = refl
 
   -- the three records of an option
   pub option-pieces : (encodedRule (holdsIfDerived t a) ++ encodedRule (derivedIfHolds t a)) ++ encodedRule (neverBoth t a) ≡ encodedRules (option t a)

@@ -3,26 +3,20 @@
 -- Assumes nothing.
 use Prim.Native.Nat.{ℕ, _+_, _*_}
 use native.Mathlib.Omega.{arith}
-use native.Mathlib.Nat.{add-zero}
-use mathlib.Core.Path.{_≡_, refl, sym, _∙_, ap, ap₂, subst}
+use mathlib.Core.Path.{_≡_, refl, sym, _∙_, ap, ap₂}
 use mathlib.Core.Bool.{true, false}
 use mathlib.Core.List.{List, [], _∷_, _++_, map, append-assoc, append-nil}
 use lib.ListN.{length, getD, take, drop, length-append, length-map}
-use lib.Seq.{drop-drop, drop-at, take-at, getD-drop}
-use Rattle.buffer.specs.Bytes.{number, numberAt}
 use Rattle.buffer.specs.Write.{write}
-use Rattle.buffer.proofs.Laws.Bytes.{number-twoBytes}
 use Rattle.literal.specs.declared.Tag.{Tag}
 use Rattle.literal.specs.declared.SignedAtom.{SignedAtom}
-use Rattle.literal.specs.declared.SignedAtom.the-variants.{Positive, Negative}
 use Rattle.literal.specs.declared.Literal.{Literal}
-use Rattle.literal.specs.declared.Literal.the-variants.{Signed, Defeated, Derived}
-use Rattle.literal.specs.Literal.{atomNumber, kind, atomField, encoded, negatedKind, signedAtom}
-use Rattle.literal.proofs.Laws.Literal.{length-encoded}
+use Rattle.literal.specs.declared.Literal.the-variants.{Defeated, Derived}
+use Rattle.literal.specs.Literal.{encoded}
 use Rattle.semantics.specs.Rule.{Rule, strict, defeasible}
 use Rattle.semantics.specs.Translation.{ruleDefeated, choice, allDefeated, options, translatedRule, recordLength}
-use Rattle.record.specs.Layout.{encodedLiterals, ruleRecord, encodedRule, encodedRules}
-use Rattle.record.proofs.Laws.Layout.{encoded-literals-append, length-encoded-literals, length-encoded-rule}
+use Rattle.record.specs.Layout.{encodedLiterals, encodedRule, encodedRules}
+use Rattle.record.proofs.Laws.Layout.{encoded-literals-append, length-encoded-rule}
 use Rattle.emit.specs.Header.{header}
 use Rattle.emit.specs.Starts.{Starts}
 use Rattle.emit.specs.Options.{tagAt, optionsAt}

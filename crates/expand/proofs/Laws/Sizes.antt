@@ -2,50 +2,24 @@
 -- Assumes nothing.
 use Prim.Native.Nat.{ℕ, _+_, _*_}
 use native.Mathlib.Omega.{arith}
-use mathlib.Core.Path.{_≡_, refl, _∙_, ap}
-use mathlib.Core.List.{List, [], _∷_, _++_, append-nil}
-use lib.ListN.{length, getD, length-append, length-map}
+use mathlib.Core.Path.{_≡_, _∙_, ap}
+use mathlib.Core.List.{List}
+use lib.ListN.{length, getD, length-map}
 use borrow.Author.Tests.{eq-eqb, ne-eqb}
-use Rattle.literal.specs.declared.Tag.{Tag}
-use Rattle.literal.specs.declared.SignedAtom.{SignedAtom}
-use Rattle.literal.specs.declared.Literal.the-variants.{Signed, Derived}
+use Rattle.literal.specs.declared.Literal.the-variants.{Signed}
 use Rattle.semantics.specs.Rule.{Rule, strict, defeasible}
-use Rattle.semantics.specs.Translation.{ruleDefeated, choice, allDefeated, option, options, translatedRule, recordLength, translatedLength, translatedCount}
-use Rattle.record.specs.Layout.{encodedRule, encodedRules}
+use Rattle.semantics.specs.Translation.{translatedRule, recordLength, translatedLength, translatedCount}
+use Rattle.semantics.proofs.Laws.Length.{rule-length}
+use Rattle.record.specs.Layout.{encodedRules}
 use Rattle.record.specs.Code.{recordSize}
-use Rattle.record.proofs.Laws.Layout.{length-encoded-rule}
+use Rattle.record.proofs.Laws.Layout.{length-encoded-rules}
 use Rattle.emit.specs.Starts.{Starts}
 use Rattle.emit.proofs.Laws.Fields.{strict-fields, defeasible-fields}
 use Rattle.expand.specs.Writing.{lengthAt, countAt}
-use Rattle.expand.proofs.Laws.Options.{encoded-rules-append, length-option}
-use Rattle.expand.proofs.Laws.Rule.{length-all-defeated}
-
--- 56 bytes for each option
-length-options : (t : Tag) (h : List SignedAtom) → length (encodedRules (options t h)) ≡ 56 * length h
-unfolding options encodedRules
-length-options t [] = refl
-length-options t (a ∷ h) =
-    ap length (encoded-rules-append (option t a) (options t h)) ∙ length-append (encodedRules (option t a)) (encodedRules (options t h)) ∙ omega (arith, length-option t a, length-options t h)
 
 -- a rule becomes as many bytes as the sum says
 pub length-translated : (n : ℕ) (r : Rule) → length (encodedRules (translatedRule n r)) ≡ translatedLength r
-unfolding translatedRule translatedLength encodedRules recordLength choice
-length-translated n (strict h b c) = ap length (append-nil (encodedRule (strict h b c))) ∙ length-encoded-rule (strict h b c)
-length-translated n (defeasible t h b c) =
-    length-append (encodedRule (choice n t h b c)) (encodedRule (allDefeated n t h) ++ encodedRules (options t h))
-    ∙ omega (arith, length-append (encodedRule (allDefeated n t h)) (encodedRules (options t h)), length-encoded-rule (choice n t h b c), length-all-defeated n t h, length-options t h, length-map h (Derived t), length-append c (ruleDefeated n ∷ []))
-
--- three rules for each option
-count-options : (t : Tag) (h : List SignedAtom) → length (options t h) ≡ 3 * length h
-unfolding options option
-count-options t [] = refl
-count-options t (a ∷ h) = omega (arith, count-options t h)
-
--- a rule becomes as many rules as are counted
-pub count-translated : (n : ℕ) (r : Rule) → length (translatedRule n r) ≡ translatedCount r
-unfolding translatedRule translatedCount
-count-translated n (strict h b c) = refl
-count-translated n (defeasible t h b c) = omega (arith, count-options t h)
+length-translated n r = length-encoded-rules (translatedRule n r) ∙ rule-length n r
 
 -- the length and the count that a header tells are those of the rule's translation
 pub record Told (s : List ℕ) (r : Rule) : Type 0 where

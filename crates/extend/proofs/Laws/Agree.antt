@@ -19,8 +19,8 @@ use Rattle.semantics.specs.Translation.{ruleDefeated}
 use Rattle.semantics.specs.Extension.{defeatedRule}
 use Rattle.semantics.specs.Form.{keepsRule}
 use Rattle.semantics.proofs.Laws.Tests.{first, second}
-use Rattle.extend.specs.Extend.{derivedMarks, ruleMarks, marksFrom}
-use Rattle.extend.specs.Marks.{Extendable}
+use Rattle.marks.specs.Marks.{derivedMarks, ruleMarks, marksFrom}
+use Rattle.extend.specs.Extending.{Extendable}
 use Rattle.extend.proofs.Laws.Narrow.{narrow-option, narrow-tag, options-taken}
 
 -- two sets hold the same literals of those whose fields fit two bytes

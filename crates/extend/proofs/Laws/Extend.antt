@@ -18,11 +18,12 @@ use Rattle.semantics.proofs.Laws.Tests.{any-append, all-intro, all-mem, along}
 use Rattle.semantics.proofs.Laws.Set.{set-ext}
 use Rattle.semantics.proofs.Laws.Form.{keeps-count, keeps-each, takes-source}
 use Rattle.litset.specs.Layout.{ascending}
-use Rattle.extend.specs.Extend.{marksFrom, sorted, extensionList}
-use Rattle.extend.specs.Marks.{Extendable}
+use Rattle.marks.specs.Marks.{marksFrom}
+use Rattle.marks.proofs.Laws.Members.{marks-added}
+use Rattle.extend.specs.Extend.{sorted, extensionList}
+use Rattle.extend.specs.Extending.{Extendable}
 use Rattle.extend.proofs.Laws.Sorted.{Narrow}
 use Rattle.extend.proofs.Laws.Narrow.{marks-fit, literals-fit}
-use Rattle.extend.proofs.Laws.Members.{marks-added}
 use Rattle.extend.proofs.Laws.Inserted.{in-sorted, ascending-sorted, not-below-sorted, ascending-append}
 use Rattle.extend.proofs.Laws.Places.{firstMark, not-below-marks, below-literals}
 

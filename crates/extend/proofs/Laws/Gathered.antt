@@ -1,5 +1,5 @@
 -- Laws of what is gathered for an extension, from what reading gives: the marks, and the record that they make with the set.
--- In order: a program whose marks can be collected; its marks by the set's keys; their fields; the keys that are sorted; the
+-- In order: keys that were collected, sorted; a program whose marks can be collected; its marks by the set's keys; their fields; the keys that are sorted; the
 -- record.
 -- Assumes nothing.
 use Prim.Native.Nat.{ℕ, _+_, _*_, _<_}
@@ -10,7 +10,7 @@ use mathlib.Core.Bool.{_&&_}
 use mathlib.Core.List.{List, _++_, map, append-assoc}
 use lib.Dec.{T, leb}
 use lib.ListN.{length, take, drop, length-append, length-map, length-take}
-use lib.Seq.{take-all}
+use lib.Seq.{take-all, take-append-le, length-front}
 use Rattle.buffer.specs.Bytes.{Bytes}
 use Rattle.literal.specs.declared.Limits.{Limits}
 use Rattle.literal.specs.declared.Literal.{Literal}
@@ -33,12 +33,24 @@ use Rattle.litset.specs.Reading.{parsedSet}
 use Rattle.litset.specs.Keys.{keySet}
 use Rattle.litset.proofs.Laws.Reading.{parsed-set-sound, length-encoded-set, keeps-set-most}
 use Rattle.litset.proofs.Laws.Keys.{has-key-member}
-use Rattle.extend.specs.Extend.{marksFrom, sorted, extensionList}
 use Rattle.litset.specs.Header.{setHeader}
-use Rattle.extend.specs.Marks.{most, Extendable, Marking, joined}
+use Rattle.marks.specs.Marks.{marksFrom}
+use Rattle.marks.specs.Collect.{Gained, Marking}
+use Rattle.marks.proofs.Laws.Gained.{gained-front}
+use Rattle.extend.specs.Extend.{sorted, extensionList}
+use Rattle.extend.specs.Extending.{most, Extendable, joined}
 use Rattle.extend.proofs.Laws.Sorted.{Narrow, keys-sorted, keyBytes-sorted, fitting-keys}
 use Rattle.extend.proofs.Laws.Agree.{marks-agree}
 use Rattle.extend.proofs.Laws.Narrow.{marks-fit}
+
+-- keys that were gained from the front on, and are sorted there
+pub gained-sorted : {d e f : List ℕ} {n r : ℕ} {ks : List ℕ} → Gained d e 0 n ks → Sorted (take n e) f r (sortedKeys (take n e)) → Sorted d (f ++ drop n e) r (sortedKeys ks)
+gained-sorted {d} {e} {f} {n} {r} g s =
+    record {
+      count = omega (arith, s .count, length-take n e, g .same);
+      front = take-append-le r f (drop n e) (omega (arith, s .count, s .same)) ∙ s .front ∙ ap sortedKeys (gained-front g);
+      same = length-front e f n (s .same) ∙ g .same;
+    }
 
 -- a rule within the limits has no more head literals than they allow
 pub few-heads : (F : Limits) (r : Rule) → T (keepsRule F r) → T (leb (length (head r)) (F .heads))

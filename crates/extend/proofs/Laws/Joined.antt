@@ -3,26 +3,18 @@
 use Prim.Native.Nat.{ℕ, _+_, _*_, _≤_}
 use native.Mathlib.Omega.{arith}
 use mathlib.Core.Path.{_≡_, refl}
-use mathlib.Core.List.{List, [], _∷_, _++_}
-use lib.ListN.{length, take, drop, set, length-append, length-take, length-drop}
-use Rattle.buffer.specs.Bytes.{twoBytes}
+use mathlib.Core.List.{List, _++_}
+use lib.ListN.{length, take, drop, length-append, length-take, length-drop}
 use Rattle.buffer.specs.Write.{write}
-use Rattle.buffer.proofs.Laws.Write.{two-sets-write}
 use Rattle.buffer.proofs.Laws.Next.{write-behind}
-use Rattle.record.specs.Layout.{colon}
 use Rattle.keys.specs.Bytes.{keyBytes}
 use Rattle.litset.specs.Header.{setHeader}
-use Rattle.extend.specs.Marks.{joined}
+use Rattle.extend.specs.Extending.{joined}
 
 -- four bytes
 length-header : (n : ℕ) → length (setHeader n) ≡ 4
 unfolding setHeader
 length-header n = refl
-
--- two stores and a number behind them write a header
-pub header-stores : (d e : List ℕ) (n : ℕ) → 4 ≤ length d → e ≡ write (set (set d 0 0x41) 1 colon) 2 (twoBytes n) → e ≡ write d 0 (setHeader n)
-unfolding setHeader
-header-stores d e n fits done = write-behind d 0 (0x41 ∷ (colon ∷ [])) 2 (twoBytes n) (omega arith) refl (two-sets-write d 0 0x41 colon (omega arith)) done
 
 -- the literals of the set, as they are copied
 length-copied : (k : List ℕ) (count : ℕ) → 4 + 5 * count ≤ length k → length (take (5 * count) (drop 4 k)) ≡ 5 * count

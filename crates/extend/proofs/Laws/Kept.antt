@@ -19,9 +19,11 @@ use Rattle.semantics.proofs.Laws.Set.{set-of-mem, mem-set-of}
 use Rattle.semantics.proofs.Laws.Form.{keeps-count, keeps-each, takes-source, Covers, extension-within}
 use Rattle.litset.specs.Layout.{keepsSet}
 use Rattle.litset.proofs.Laws.Reading.{keeps-set, keeps-set-ascending, keeps-set-taken, keeps-set-most}
-use Rattle.extend.specs.Extend.{marksFrom, sorted, extensionList}
-use Rattle.extend.specs.Marks.{most, Extendable}
-use Rattle.extend.proofs.Laws.Count.{length-program, length-sorted}
+use Rattle.marks.specs.Marks.{marksFrom}
+use Rattle.marks.proofs.Laws.Count.{length-program}
+use Rattle.extend.specs.Extend.{sorted, extensionList}
+use Rattle.extend.specs.Extending.{most, Extendable}
+use Rattle.extend.proofs.Laws.Sorted.{length-sorted}
 use Rattle.extend.proofs.Laws.Gathered.{few-heads}
 use Rattle.extend.proofs.Laws.Extend.{extension-list, extension-ascending-form}
 

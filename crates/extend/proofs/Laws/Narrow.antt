@@ -21,8 +21,8 @@ use Rattle.semantics.specs.Extension.{defeatedRule, sourceKind}
 use Rattle.semantics.specs.Form.{keepsTag, keepsRule}
 use Rattle.semantics.proofs.Laws.Tests.{first, second}
 use Rattle.semantics.proofs.Laws.Form.{keeps-tag, keeps-head}
-use Rattle.extend.specs.Extend.{derivedMarks, ruleMarks, marksFrom}
-use Rattle.extend.specs.Marks.{Extendable}
+use Rattle.marks.specs.Marks.{derivedMarks, ruleMarks, marksFrom}
+use Rattle.extend.specs.Extending.{Extendable}
 use Rattle.extend.proofs.Laws.Sorted.{Narrow}
 
 -- lists of marks

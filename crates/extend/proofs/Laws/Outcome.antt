@@ -31,9 +31,11 @@ use Rattle.litset.specs.Layout.{encodedSet}
 use Rattle.litset.specs.Reading.{parsedSet, setReading}
 use Rattle.litset.specs.Keys.{Ascends, keySet}
 use Rattle.litset.proofs.Laws.Keys.{set-long, set-ascends}
-use Rattle.extend.specs.Extend.{marksFrom, extensionList, extensionBytes, extended}
-use Rattle.extend.specs.Marks.{most, Extendable, Marking, Extending, joined}
-use Rattle.extend.proofs.Laws.Refused.{read-rules, read-refused, read-literals, set-refused}
+use Rattle.litset.proofs.Laws.Answered.{program-rules, program-refused, set-literals, set-refused}
+use Rattle.marks.specs.Marks.{marksFrom}
+use Rattle.marks.specs.Collect.{Marking}
+use Rattle.extend.specs.Extend.{extensionList, extensionBytes, extended}
+use Rattle.extend.specs.Extending.{most, Extendable, Extending, joined}
 use Rattle.extend.proofs.Laws.Gathered.{marking, marking-program, gathered-few, gathered-fitting, gathered-record, gathered-length}
 
 module _ (F : Limits) (s k : List ℕ) where
@@ -62,24 +64,23 @@ module _ (F : Limits) (s k : List ℕ) where
 
   module _ (out : List ℕ) where
     -- a refusal of the program is the answer
-    pub program-refused : (r : Written) (x : Refusal) → r ≡ Refused x → reading F s ≡ Reading.Refused x → Meets (extended F s k out) r out
-    unfolding extended reading
-    program-refused r x e f = rw e (meets-refused (extensionBytes F s k) out x (bytes-refused x (read-refused (parsed F s) x f)))
+    pub extended-refused : (r : Written) (x : Refusal) → r ≡ Refused x → reading F s ≡ Reading.Refused x → Meets (extended F s k out) r out
+    unfolding extended
+    extended-refused r x e f = rw e (meets-refused (extensionBytes F s k) out x (bytes-refused x (program-refused F s x f)))
 
     -- a refusal of the set, where the program is read
     pub member-refused : (r : Written) (n : ℕ) (x : Refusal) → reading F s ≡ Reading.Rules n → r ≡ Refused x → setReading F (F .literals) k ≡ SetReading.Refused x → Meets (extended F s k out) r out
-    unfolding extended reading setReading
+    unfolding extended
     member-refused r n x a e f =
-        let w = read-rules (parsed F s) n a in
-        rw e (meets-refused (extensionBytes F s k) out x (bytes-set-refused (w .0) x (w .1) (set-refused (parsedSet F (F .literals) k) x f)))
+        let w = program-rules F s n a in
+        rw e (meets-refused (extensionBytes F s k) out x (bytes-set-refused (w .0) x (w .1) (set-refused F (F .literals) k x f)))
 
   -- both are read
   pub both-read : (n c : ℕ) → reading F s ≡ Reading.Rules n → setReading F (F .literals) k ≡ SetReading.Literals c → Extending F s k c
-  unfolding reading setReading
   both-read n c a e =
-      let w = read-rules (parsed F s) n a in
-      let v = read-literals (parsedSet F (F .literals) k) c e in
-      record { program = w .0; holds = w .1; literals = v .0; members = v .1; counted = v .2 }
+      let w = program-rules F s n a in
+      let v = set-literals F (F .literals) k c e in
+      record { program = w .0; holds = w .1; literals = v .0; members = v .1; counted = sym (v .2) }
 
   module _ (ok : Extendable F) (count : ℕ) (w : Extending F s k count) (bs : Bytes s) (bk : Bytes k) where
     -- its marks can be collected, and the set searched

@@ -18,7 +18,7 @@ use Rattle.semantics.specs.Rule.{Rule, strict, defeasible, Program}
 use Rattle.semantics.specs.Translation.{ruleDefeated}
 use Rattle.semantics.specs.Extension.{defeatedRule, sourceKind}
 use Rattle.semantics.proofs.Laws.Tests.{first, second}
-use Rattle.extend.specs.Extend.{derivedMarks, ruleMarks, marksFrom}
+use Rattle.marks.specs.Marks.{derivedMarks, ruleMarks, marksFrom}
 use Rattle.extend.proofs.Laws.Sorted.{Narrow}
 use Rattle.extend.proofs.Laws.Inserted.{Below, NotBelow}
 

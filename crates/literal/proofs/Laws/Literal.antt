@@ -2,23 +2,20 @@
 -- In order: a literal's fields and bytes; what three fields spell, and the fields of what is spelled; five bytes and the
 -- fields in them; decoding in a form, from bytes to a literal and back; the fields' ranges in a form. Assumes nothing.
 use Prim.Native.Nat.{ℕ, zero, suc, _+_, _≤_, _<_, max}
-use mathlib.Core.Bool.{Bool, true, false, _&&_, cond, and-true, and-false, true≢false}
+use mathlib.Core.Bool.{Bool, true, false, cond, true≢false}
 use mathlib.Core.List.{List, [], _∷_, _++_}
-use mathlib.Core.Logic.{_↔_}
 use mathlib.Core.Path.{_≡_, refl, sym, ap, ap₂, _∙_}
 use native.Mathlib.Omega.{arith}
 use lib.Dec.{T, leb, eqb, leb→le}
 use lib.Ieee.Bits.{is-true}
 use lib.Ieee.Fits.{and-l, and-r}
-use lib.ListN.{length, getD, take, drop, take-append-drop}
-use lib.Seq.{getD-take}
+use lib.ListN.{length, getD, take}
 use borrow.Author.Tests.{eqb-true, ne-eqb, le-leb, lt-leb}
 use Rattle.buffer.specs.Bytes.{Bytes, twoBytes, numberAt}
 use Rattle.buffer.specs.Write.{write}
 use Rattle.buffer.proofs.Laws.Write.{write-write}
 use Rattle.buffer.proofs.Laws.Bytes.{bytes-cons, bytes-append, bytes-twoBytes, number-twoBytes, twoBytes-number}
 use Rattle.literal.specs.declared.Limits.{Limits}
-use Rattle.literal.specs.declared.SignedAtom.{SignedAtom}
 use Rattle.literal.specs.declared.SignedAtom.the-variants.{Positive, Negative}
 use Rattle.literal.specs.declared.Literal.{Literal}
 use Rattle.literal.specs.declared.Literal.the-variants.{Signed, Defeated, Derived, RuleDefeated}
@@ -156,28 +153,11 @@ spelled-encoded :
 unfolding encoded
 spelled-encoded l rest = rw (number-twoBytes (tagField l), number-twoBytes (atomField l)) (spelled-fields l)
 
--- no two literals have the same bytes
-pub encoded-injective : (l m : Literal) → encoded l ≡ encoded m → l ≡ m
-encoded-injective l m e =
-    valid-injective (sym (spelled-encoded l []) ∙ rw e (spelled-encoded m []))
-
 -- what is in range is at most the largest value
 in-range : (most n : ℕ) → T (inRange most n) → n ≤ most
 in-range most n h = leb→le n most (and-r (leb 1 n) (leb n most) h)
 
 module _ (F : Limits) where
-  -- decoding looks at five bytes
-  pub decoded-take : (bs : List ℕ) → decoded F (take 5 bs) ≡ decoded F bs
-  unfolding decoded
-  decoded-take bs =
-      rw (
-        getD-take 5 bs 0 0 (omega arith),
-        getD-take 5 bs 1 0 (omega arith),
-        getD-take 5 bs 2 0 (omega arith),
-        getD-take 5 bs 3 0 (omega arith),
-        getD-take 5 bs 4 0 (omega arith),
-      )
-
   -- a literal that the form takes is decoded from its bytes
   pub decoded-encoded : (l : Literal) (rest : List ℕ) → T (takes F l) → decoded F (encoded l ++ rest) ≡ Valid l
   unfolding decoded within
@@ -212,18 +192,6 @@ module _ (F : Limits) where
       let v = valid-within (spelled (getD bs 0 0) (numberAt bs 1) (numberAt bs 3)) l e in
       let f = fields-spelled (getD bs 0 0) (numberAt bs 1) (numberAt bs 3) l (v .0) in
       (take-five bs h n ∙ rw (f .of-kind, f .of-tag, f .of-atom), v .1)
-
-  -- decoding gives a literal exactly where the bytes are its own and the form takes it
-  pub decoded-iff :
-      (bs : List ℕ) (l : Literal) →
-      Bytes bs →
-      5 ≤ length bs →
-      (decoded F bs ≡ Valid l) ↔ ((take 5 bs ≡ encoded l) × T (takes F l))
-  decoded-iff bs l h n = (
-    encoded-decoded bs l h n,
-    λ p.
-        ap (decoded F) (sym (take-append-drop 5 bs)) ∙ rw (p .0) (decoded-encoded l (drop 5 bs) (p .1)),
-  )
 
   -- what the form takes is of its kinds, and in its ranges
   pub takes-kind : (l : Literal) → T (takes F l) → kind l ≤ F .kinds

@@ -1,6 +1,6 @@
 -- What reading the literals of a set accepts: a run of the form's literals, each above the one before; and the way back.
 -- In order: literals above a key; literals that are accepted; literals in ascending order are accepted. Assumes nothing.
-use Prim.Native.Nat.{ℕ, zero, suc, _+_, _*_, _≤_, _<_}
+use Prim.Native.Nat.{ℕ, zero, suc, _+_, _*_, _≤_}
 use native.Mathlib.Omega.{arith}
 use mathlib.Core.Path.{_≡_, refl, sym, _∙_, ap, subst}
 use mathlib.Core.Bool.{Bool, true, false, _&&_}

@@ -1,10 +1,10 @@
 -- A set that was read, by its keys: what the search needs, and that it finds a literal exactly if the set holds it.
 -- In order: the keys of encoded literals; fields that fit; the search's needs; membership. Assumes nothing.
-use Prim.Native.Nat.{ℕ, zero, suc, _+_, _*_, _/_, _≤_, _<_}
+use Prim.Native.Nat.{ℕ, zero, suc, _+_, _*_, _≤_, _<_}
 use native.Mathlib.Omega.{arith}
 use mathlib.Core.Path.{_≡_, refl, sym, _∙_, ap, ap₂, subst}
-use mathlib.Core.Bool.{Bool, _&&_, _||_}
-use mathlib.Core.List.{List, [], _∷_, _++_, append-assoc, append-nil, List·Memᴰ, List·Memᴰ·head, List·Memᴰ·tail}
+use mathlib.Core.Bool.{Bool, _||_}
+use mathlib.Core.List.{List, [], _∷_, List·Memᴰ, List·Memᴰ·head, List·Memᴰ·tail}
 use lib.Dec.{T, ltb, eqb, ltb→lt, eqb→eq, eqb-refl}
 use lib.ListN.{length, drop}
 use lib.Seq.{drop-drop, drop-at}
@@ -23,7 +23,7 @@ use Rattle.record.specs.Result.{accepted}
 use Rattle.record.specs.Layout.{encodedLiterals}
 use Rattle.litset.specs.Layout.{encodedSet}
 use Rattle.litset.specs.Reading.{parsedSet}
-use Rattle.litset.specs.Keys.{memberKey, Ascends, hasKeyFrom, hasKey}
+use Rattle.litset.specs.Keys.{Ascends, hasKeyFrom, hasKey}
 use Rattle.litset.proofs.Laws.Above.{above, ascending-above}
 use Rattle.litset.proofs.Laws.Reading.{keeps-set-ascending, keeps-set-taken, parsed-set-sound, length-parsed-set}
 use Rattle.litset.proofs.Laws.Search.{number-first, number-next}

@@ -1,7 +1,7 @@
 -- A set's literals by their bytes and by their keys: the literal before one, kept as bytes or as a key, decides alike.
 -- In order: where bytes and a key decide alike; one step through the literals; the reader's way is that of the definition;
 -- the number of literals. Assumes nothing.
-use Prim.Native.Nat.{ℕ, zero, suc, _+_, _-_, _*_, _≤_, _<_}
+use Prim.Native.Nat.{ℕ, zero, suc, _+_, _-_, _*_, _≤_}
 use native.Mathlib.Omega.{arith}
 use mathlib.Core.Path.{_≡_, refl, sym, _∙_, ap}
 use mathlib.Core.Bool.{Bool, true, false}
@@ -20,7 +20,6 @@ use Rattle.literal.specs.Order.{bytesBefore, keyAt}
 use Rattle.literal.proofs.Laws.Literal.{encoded-decoded}
 use Rattle.literal.proofs.Laws.Order.{bytesBefore-keyAt, keyAt-decoded, key-positive}
 use Rattle.record.specs.declared.Reason.the-variants.{MemberWrong}
-use Rattle.record.specs.declared.Run.{Run}
 use Rattle.record.specs.Refusal.{refusal}
 use Rattle.record.specs.Result.{Result, accepted, refused, andThen}
 use Rattle.record.specs.Code.{runOf}

@@ -1,7 +1,6 @@
 -- Where a set is refused: within its literals. Assumes nothing.
 use Prim.Native.Nat.{ℕ, zero, suc, _+_, _*_, _≤_}
 use native.Mathlib.Omega.{arith}
-use mathlib.Core.Path.{_≡_, refl}
 use mathlib.Core.Bool.{Bool, true, false, not}
 use mathlib.Core.List.{List, _∷_}
 use lib.Dec.{ltb}
@@ -14,7 +13,7 @@ use Rattle.literal.specs.declared.Decoded.{Decoded}
 use Rattle.literal.specs.declared.Decoded.the-variants.{Valid, Wrong}
 use Rattle.literal.specs.Literal.{decoded}
 use Rattle.literal.specs.Order.{bytesBefore}
-use Rattle.record.specs.declared.Reason.the-variants.{SetWrong, SetTooLarge, MemberWrong}
+use Rattle.record.specs.declared.Reason.the-variants.{MemberWrong}
 use Rattle.record.specs.Refusal.{refusal}
 use Rattle.record.specs.Result.{Result, accepted, refused, andThen}
 use Rattle.record.proofs.Laws.Places.{Placed, refuse-if-placed, and-then-placed}

@@ -4,13 +4,13 @@
 use Prim.Native.Nat.{ℕ, _+_, _*_, _≤_, _<_}
 use native.Mathlib.Omega.{arith}
 use mathlib.Core.Path.{_≡_, refl, sym, _∙_, ap, ap₂, subst}
-use mathlib.Core.Bool.{Bool, true, false, not, _&&_}
+use mathlib.Core.Bool.{true, not, _&&_}
 use mathlib.Core.Logic.{_↔_}
 use mathlib.Core.List.{List, [], _∷_, _++_, append-nil}
-use lib.Dec.{T, leb, ltb, eqb, leb→le, ltb→lt, le→leb, lt→ltb}
+use lib.Dec.{T, leb, ltb, leb→le, ltb→lt, le→leb, lt→ltb}
 use lib.ListN.{length, getD, take, drop, take-append-drop, length-drop}
 use lib.Seq.{take-all}
-use borrow.Author.Tests.{le-leb, le-ltb, ltb-false, eq-eqb, not-false}
+use borrow.Author.Tests.{le-ltb, ltb-false, eq-eqb, not-false}
 use Rattle.buffer.specs.Bytes.{Bytes, twoBytes, numberAt}
 use Rattle.buffer.proofs.Laws.Bytes.{number-twoBytes, twoBytes-number}
 use Rattle.literal.specs.declared.Limits.{Limits}
@@ -29,7 +29,7 @@ use Rattle.litset.specs.Layout.{ascending, encodedSet, keepsSet}
 use Rattle.litset.specs.Reading.{membersAt, setShape, parsedSet}
 use Rattle.litset.proofs.Laws.Shape.{Shaped, shaped, shape-marked}
 use Rattle.litset.proofs.Laws.Order.{alike-first}
-use Rattle.litset.proofs.Laws.Above.{above, ascending-above, members-sound, members-complete}
+use Rattle.litset.proofs.Laws.Above.{ascending-above, members-sound, members-complete}
 
 module _ (F : Limits) (most : ℕ) (ls : List Literal) where
   -- the parts of a set's limits

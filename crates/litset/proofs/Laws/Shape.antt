@@ -1,9 +1,9 @@
 -- Laws of a set's shape: its tests, one after another, and what a right shape says. Assumes nothing.
 use Prim.Native.Nat.{ℕ, _+_, _*_, _≤_, _<_}
-use mathlib.Core.Bool.{Bool, true, false, _&&_, and-false}
+use mathlib.Core.Bool.{true, false, _&&_}
 use mathlib.Core.List.{List}
-use mathlib.Core.Path.{_≡_, refl, sym, ap, subst}
-use lib.Dec.{T, leb, eqb, leb→le, le→leb, eqb→eq}
+use mathlib.Core.Path.{_≡_, sym, subst}
+use lib.Dec.{T, leb, eqb, eqb→eq}
 use lib.ListN.{length, getD}
 use borrow.Author.Tests.{le-leb, lt-leb, eq-eqb, ne-eqb}
 use Rattle.buffer.specs.Bytes.{numberAt}

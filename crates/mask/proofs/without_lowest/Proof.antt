@@ -1,6 +1,6 @@
 -- `mask::without_lowest` meets its contract: for the empty mask, too, both sides are empty.
 -- Assumes nothing.
-use mathlib.Core.Path.{refl, sym, subst}
+use mathlib.Core.Path.{refl}
 use borrow.Author.Needs.{needs}
 use Rattle.mask.proofs.without_lowest.Statement.{statement}
 use Rattle.mask.proofs.without_lowest.Tie as tie

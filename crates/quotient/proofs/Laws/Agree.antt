@@ -2,9 +2,9 @@
 -- In order: options; a rule; a program; the keys of a set's slice. Assumes nothing.
 use Prim.Native.Nat.{ℕ, _<_}
 use native.Mathlib.Omega.{arith}
-use mathlib.Core.Path.{_≡_, refl, _∙_, ap, ap₂}
+use mathlib.Core.Path.{_≡_, refl, ap, ap₂}
 use mathlib.Core.Bool.{Bool, _&&_, cond}
-use mathlib.Core.List.{List, [], _∷_, map, List·Memᴰ}
+use mathlib.Core.List.{List, [], _∷_, map}
 use mathlib.Core.Option.{Option, none, some}
 use lib.Dec.{T, leb, leb→le}
 use lib.ListN.{length}
@@ -14,7 +14,7 @@ use Rattle.literal.specs.declared.Tag.{Tag}
 use Rattle.literal.specs.declared.SignedAtom.{SignedAtom}
 use Rattle.literal.specs.declared.Literal.{Literal}
 use Rattle.literal.specs.declared.Literal.the-variants.{Signed, Defeated}
-use Rattle.literal.specs.Literal.{atomNumber, tagField, atomField, inRange, takes}
+use Rattle.literal.specs.Literal.{tagField, atomField, inRange, takes}
 use Rattle.literal.proofs.Laws.Literal.{takes-fields}
 use Rattle.semantics.specs.Set.{LiteralSet, all, setOf}
 use Rattle.semantics.specs.Rule.{Rule, strict, defeasible, Program, Remainder, head, naf}

@@ -5,22 +5,23 @@ use Prim.Native.Nat.{ℕ, _+_, _*_, _≤_, _<_}
 use native.Mathlib.Omega.{arith}
 use mathlib.Core.Path.{_≡_, refl, sym, _∙_, ap, subst}
 use mathlib.Core.Bool.{Bool, true, false, cond}
-use mathlib.Core.List.{List, [], _∷_, _++_}
+use mathlib.Core.List.{List, [], _∷_}
 use lib.Dec.{eqb}
 use borrow.Author.Tests.{eqb-true, eqb-false}
 use lib.ListN.{length, getD, drop}
 use Rattle.buffer.specs.Write.{write}
 use Rattle.buffer.proofs.Laws.Next.{write-left}
 use Rattle.literal.specs.declared.Literal.{Literal}
-use Rattle.semantics.specs.Rule.{Rule, Program}
+use Rattle.semantics.specs.Rule.{Program}
 use Rattle.semantics.specs.Meaning.{remainder}
 use Rattle.record.specs.Layout.{encodedEnd, encodedProgram}
 use Rattle.record.specs.Code.{recordSize}
 use Rattle.litset.specs.Keys.{keySet, anyKey}
 use Rattle.emit.specs.Starts.{Stands}
-use Rattle.emit.proofs.Laws.Stands.{More, stands-open, stands-end, stands-more, stands-start}
-use Rattle.quotient.specs.Writing.{remainderBytes, remainderCount, quotientOf, remainderAt, leftAt, strictBytes, optionBytes}
-use Rattle.quotient.proofs.Laws.Options.{left-few}
+use Rattle.emit.proofs.Laws.Stands.{stands-open, stands-end, stands-more, stands-start}
+use Rattle.remains.specs.Left.{leftAt}
+use Rattle.quotient.specs.Writing.{remainderBytes, remainderCount, quotientOf, remainderAt, optionBytes}
+use Rattle.remains.proofs.Laws.Left.{left-few}
 use Rattle.quotient.proofs.Laws.Remainder.{remainder-removed, remainder-defeasible, remainder-strict, length-strict-bytes, length-option-bytes, option-bytes-none}
 use Rattle.quotient.proofs.Laws.Meaning.{remainder-at}
 use Rattle.quotient.proofs.Laws.Program.{leftBytes, rest, count-bytes, count-few, rest-rule, rest-nil, rest-start, length-rest, length-left-rule, length-left-nil}

@@ -1,19 +1,19 @@
 -- What is written is read in plain form as the quotient, as strict rules without naf literals.
 -- In order: a form that takes all that another takes; rules that are left; the quotient; the two forms. Assumes nothing.
-use Prim.Native.Nat.{ℕ, _+_, _*_, _≤_}
+use Prim.Native.Nat.{_≤_}
 use native.Mathlib.Omega.{arith}
-use mathlib.Core.Path.{_≡_, refl, sym, _∙_, ap, subst}
+use mathlib.Core.Path.{_≡_}
 use mathlib.Core.Bool.{Bool, true, false, _&&_, cond}
-use mathlib.Core.List.{List, [], _∷_, _++_, map}
+use mathlib.Core.List.{List, [], _∷_, map}
 use mathlib.Core.Option.{Option, none, some}
 use lib.Dec.{T, leb, leb→le, le→leb}
-use lib.ListN.{length, length-append, length-map}
+use lib.ListN.{length, length-map}
 use Rattle.literal.specs.declared.Limits.{Limits}
 use Rattle.literal.specs.declared.Tag.{Tag}
 use Rattle.literal.specs.declared.SignedAtom.{SignedAtom}
 use Rattle.literal.specs.declared.Literal.{Literal}
 use Rattle.literal.specs.declared.Literal.the-variants.{Signed, Defeated, Derived, RuleDefeated}
-use Rattle.literal.specs.Literal.{atomNumber, kind, inRange, ranged, takes}
+use Rattle.literal.specs.Literal.{atomNumber, inRange, ranged, takes}
 use Rattle.literal.specs.Limits.{source, plain}
 use Rattle.literal.proofs.Laws.Literal.{takes-kind, takes-ranged, takes-both}
 use Rattle.semantics.specs.Set.{LiteralSet, any, all, setOf}
@@ -21,13 +21,13 @@ use Rattle.semantics.specs.Rule.{Rule, strict, defeasible, Program, Remainder, 
 use Rattle.semantics.specs.Meaning.{undefeated, unlessEmpty, remainder, withRemainder, quotient}
 use Rattle.semantics.specs.Form.{keepsCounts, keepsLiterals, keepsTag, keepsRule, keepsRules}
 use Rattle.semantics.proofs.Laws.Tests.{both, first, second, all-mem, all-intro}
-use Rattle.semantics.proofs.Laws.Form.{keeps-count, keeps-each, keeps-counts, keeps-head, keeps-positive}
+use Rattle.semantics.proofs.Laws.Form.{keeps-count, keeps-each, keeps-counts, keeps-head, keeps-positive, in-range-mono}
 use Rattle.record.specs.Result.{accepted}
 use Rattle.record.specs.Reading.{parsed}
 use Rattle.record.specs.Layout.{encodedProgram, keeps}
 use Rattle.record.proofs.Laws.Reading.{parsed-complete}
 use Rattle.quotient.specs.Quotient.{remainderRule, quotientProgram}
-use Rattle.quotient.proofs.Laws.Options.{undefeated-few}
+use Rattle.semantics.proofs.Laws.Meaning.{undefeated-few}
 use Rattle.quotient.proofs.Laws.Program.{rules-left}
 use Rattle.quotient.proofs.Laws.Short.{quotient-short}
 
@@ -42,25 +42,20 @@ pub record Within (F G : Limits) : Type 0 where
   pub tags : F .tags ≤ G .tags
   pub numbers : F .numbers ≤ G .numbers
 
-in-range-wider : (m k n : ℕ) → m ≤ k → T (inRange m n) → T (inRange k n)
-in-range-wider m k n h y =
-    both (leb 1 n) (leb n k) (first (leb 1 n) (leb n m) y)
-    (le→leb n k (omega (arith, leb→le n m (second (leb 1 n) (leb n m) y))))
-
 module _ (F G : Limits) (w : Within F G) where
   -- G's ranges hold what F's hold
   ranged-wider : (l : Literal) → T (ranged F l) → T (ranged G l)
   unfolding ranged
-  ranged-wider (Signed a) y = in-range-wider (F .atoms) (G .atoms) (atomNumber a) (w .atoms) y
+  ranged-wider (Signed a) y = in-range-mono (F .atoms) (G .atoms) (atomNumber a) (w .atoms) y
   ranged-wider (Defeated t a) y =
       both (inRange (G .tags) (t .0)) (inRange (G .atoms) (atomNumber a))
-      (in-range-wider (F .tags) (G .tags) (t .0) (w .tags) (first (inRange (F .tags) (t .0)) (inRange (F .atoms) (atomNumber a)) y))
-      (in-range-wider (F .atoms) (G .atoms) (atomNumber a) (w .atoms) (second (inRange (F .tags) (t .0)) (inRange (F .atoms) (atomNumber a)) y))
+      (in-range-mono (F .tags) (G .tags) (t .0) (w .tags) (first (inRange (F .tags) (t .0)) (inRange (F .atoms) (atomNumber a)) y))
+      (in-range-mono (F .atoms) (G .atoms) (atomNumber a) (w .atoms) (second (inRange (F .tags) (t .0)) (inRange (F .atoms) (atomNumber a)) y))
   ranged-wider (Derived t a) y =
       both (inRange (G .tags) (t .0)) (inRange (G .atoms) (atomNumber a))
-      (in-range-wider (F .tags) (G .tags) (t .0) (w .tags) (first (inRange (F .tags) (t .0)) (inRange (F .atoms) (atomNumber a)) y))
-      (in-range-wider (F .atoms) (G .atoms) (atomNumber a) (w .atoms) (second (inRange (F .tags) (t .0)) (inRange (F .atoms) (atomNumber a)) y))
-  ranged-wider (RuleDefeated n) y = in-range-wider (F .numbers) (G .numbers) (n .0) (w .numbers) y
+      (in-range-mono (F .tags) (G .tags) (t .0) (w .tags) (first (inRange (F .tags) (t .0)) (inRange (F .atoms) (atomNumber a)) y))
+      (in-range-mono (F .atoms) (G .atoms) (atomNumber a) (w .atoms) (second (inRange (F .tags) (t .0)) (inRange (F .atoms) (atomNumber a)) y))
+  ranged-wider (RuleDefeated n) y = in-range-mono (F .numbers) (G .numbers) (n .0) (w .numbers) y
 
   -- G takes what F takes
   takes-wider : (l : Literal) → T (takes F l) → T (takes G l)

@@ -1,6 +1,6 @@
 -- Laws of the operation: its outcome from what reading gave, and the answers that meet it.
 -- In order: refusals; what is accepted; a program and a set that were read; 9, and what is written. Assumes nothing.
-use Prim.Native.Nat.{ℕ, _*_, _+_, _≤_, _<_}
+use Prim.Native.Nat.{ℕ, _*_, _+_, _≤_}
 use native.Mathlib.Omega.{arith}
 use mathlib.Core.Path.{_≡_, refl, sym, _∙_, ap, subst}
 use mathlib.Core.Bool.{Bool, true, false, not, true≢false}
@@ -13,7 +13,6 @@ use Rattle.buffer.specs.Write.{write}
 use Rattle.literal.specs.declared.Limits.{Limits}
 use Rattle.literal.specs.declared.Literal.{Literal}
 use Rattle.literal.specs.Limits.{source, plain}
-use Rattle.semantics.specs.Set.{setOf}
 use Rattle.semantics.specs.Rule.{Program, Remainder}
 use Rattle.semantics.specs.Form.{keepsRules}
 use Rattle.semantics.proofs.Laws.Tests.{first}
@@ -24,7 +23,7 @@ use Rattle.record.specs.declared.Refusal.{Refusal}
 use Rattle.record.specs.declared.Written.{Written}
 use Rattle.record.specs.declared.Written.the-variants.{Length, Refused}
 use Rattle.record.specs.Refusal.{refusal}
-use Rattle.record.specs.Result.{Result, accepted, refused, andThen}
+use Rattle.record.specs.Result.{Result, accepted, andThen}
 use Rattle.record.specs.Reading.{parsed, reading}
 use Rattle.record.specs.Layout.{encodedProgram, keeps}
 use Rattle.record.specs.Meets.{Meets}

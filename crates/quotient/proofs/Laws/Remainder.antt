@@ -1,14 +1,13 @@
 -- Laws of what is left of a record: by its tests, its length, written in pieces.
--- In order: the tests; lengths; a write before another; the pieces. Assumes nothing.
-use Prim.Native.Nat.{ℕ, suc, _+_, _*_, _≤_, _<_}
+-- In order: the tests; lengths; the pieces. Assumes nothing.
+use Prim.Native.Nat.{ℕ, _+_, _*_, _≤_, _<_}
 use native.Mathlib.Omega.{arith}
-use mathlib.Core.Path.{_≡_, refl, sym, _∙_, ap}
-use mathlib.Core.Bool.{Bool, true, false, cond}
-use mathlib.Core.List.{List, [], _∷_, _++_, append-assoc}
-use lib.ListN.{length, getD, take, drop, length-append, length-drop, take-append-drop}
-use lib.Seq.{take-at, drop-at, length-take-le}
+use mathlib.Core.Path.{_≡_, refl, _∙_}
+use mathlib.Core.Bool.{true, false}
+use mathlib.Core.List.{List, [], _∷_, _++_}
+use lib.ListN.{length, getD, take, drop, length-append, length-drop}
+use lib.Seq.{length-take-le}
 use borrow.Author.Tests.{eq-eqb, ne-eqb}
-use Rattle.buffer.specs.Write.{write}
 use Rattle.literal.specs.declared.Literal.{Literal}
 use Rattle.record.specs.Layout.{encodedLiterals}
 use Rattle.record.specs.Code.{recordSize}
@@ -16,7 +15,8 @@ use Rattle.record.proofs.Laws.Layout.{length-encoded-literals}
 use Rattle.litset.specs.Keys.{anyKey}
 use Rattle.emit.specs.Header.{header}
 use Rattle.emit.proofs.Laws.Stores.{length-header}
-use Rattle.quotient.specs.Writing.{leftAt, strictBytes, optionBytes, remainderAt}
+use Rattle.remains.specs.Left.{leftAt}
+use Rattle.quotient.specs.Writing.{strictBytes, optionBytes, remainderAt}
 
 module _ (t k : List ℕ) (m : ℕ) where
   -- a naf literal is in the set: nothing is left
@@ -77,52 +77,3 @@ option-bytes-some t (l ∷ ls) h = refl
 pub option-bytes-short : (t : List ℕ) (ls : List Literal) (to room : ℕ) → recordSize t ≤ length t → to + length (optionBytes t ls) ≤ room → room < to + 7 → length ls ≡ 0
 option-bytes-short t [] to room whole fits h = refl
 option-bytes-short t (l ∷ ls) to room whole fits h = absurd (omega (arith, length-option-bytes t whole (l ∷ ls) (λ e. omega arith)))
-
--- a write over a part of a list
-write-part : (xs ms rest bs : List ℕ) (at : ℕ) → length xs ≡ at → length ms ≡ length bs → write (xs ++ (ms ++ rest)) at bs ≡ xs ++ (bs ++ rest)
-unfolding write
-write-part xs ms rest bs at front same =
-    ap (λ (x : List ℕ). x ++ (bs ++ drop (at + length bs) (xs ++ (ms ++ rest)))) (take-at xs (ms ++ rest) at front)
-    ∙ ap (λ (x : List ℕ). xs ++ (bs ++ x)) (ap (drop (at + length bs)) (sym (append-assoc xs ms rest)) ∙ drop-at (xs ++ ms) rest (at + length bs) (length-append xs ms ∙ omega (arith, front, same)))
-
--- a write right before another is one write
-pub write-before : (d e f : List ℕ) (at next : ℕ) (cs bs : List ℕ) → next ≡ at + length cs → next + length bs ≤ length d
-    → e ≡ write d next bs → f ≡ write e at cs → f ≡ write d at (cs ++ bs)
-write-before d e f at next cs bs place within one two =
-    two ∙ ap (λ (x : List ℕ). write x at cs) (one ∙ ap (λ (x : List ℕ). write x next bs) whole ∙ later)
-    ∙ write-part xs ms (bs ++ rest) cs at long-xs long-ms
-    ∙ ap (λ (x : List ℕ). xs ++ x) (sym (append-assoc cs bs rest))
-    ∙ sym (ap (λ (x : List ℕ). write x at (cs ++ bs)) (whole ∙ ap (λ (x : List ℕ). xs ++ x) (sym (append-assoc ms os rest)))
-    ∙ write-part xs (ms ++ os) rest (cs ++ bs) at long-xs (length-append ms os ∙ omega (arith, long-ms, long-os, length-append cs bs)))
-  where
-    xs : List ℕ
-    xs = take at d
-
-    ms : List ℕ
-    ms = take (length cs) (drop at d)
-
-    os : List ℕ
-    os = take (length bs) (drop (length cs) (drop at d))
-
-    rest : List ℕ
-    rest = drop (length bs) (drop (length cs) (drop at d))
-
-    whole : d ≡ xs ++ (ms ++ (os ++ rest))
-    whole =
-        sym (take-append-drop at d)
-        ∙ ap (λ (x : List ℕ). xs ++ x) (sym (take-append-drop (length cs) (drop at d)) ∙ ap (λ (x : List ℕ). ms ++ x) (sym (take-append-drop (length bs) (drop (length cs) (drop at d)))))
-
-    long-xs : length xs ≡ at
-    long-xs = length-take-le at d (omega arith)
-
-    long-ms : length ms ≡ length cs
-    long-ms = length-take-le (length cs) (drop at d) (omega (arith, length-drop at d))
-
-    long-os : length os ≡ length bs
-    long-os = length-take-le (length bs) (drop (length cs) (drop at d)) (omega (arith, length-drop (length cs) (drop at d), length-drop at d))
-
-    later : write (xs ++ (ms ++ (os ++ rest))) next bs ≡ xs ++ (ms ++ (bs ++ rest))
-    later =
-        ap (λ (x : List ℕ). write x next bs) (sym (append-assoc xs ms (os ++ rest)))
-        ∙ write-part (xs ++ ms) os rest bs next (length-append xs ms ∙ omega (arith, long-xs, long-ms)) long-os
-        ∙ append-assoc xs ms (bs ++ rest)

@@ -1,13 +1,13 @@
 -- A quotient is no longer than its program, rule by rule. Assumes nothing.
-use Prim.Native.Nat.{ℕ, _+_, _*_, _≤_}
+use Prim.Native.Nat.{_≤_}
 use native.Mathlib.Omega.{arith}
 use mathlib.Core.Bool.{Bool, true, false, cond}
 use mathlib.Core.List.{List, [], _∷_, map}
-use mathlib.Core.Option.{Option, none, some}
+use mathlib.Core.Option.{none, some}
 use lib.ListN.{length, length-append}
 use Rattle.literal.specs.declared.Literal.{Literal}
 use Rattle.semantics.specs.Set.{LiteralSet, any}
-use Rattle.semantics.specs.Rule.{Rule, strict, defeasible, Program, Remainder}
+use Rattle.semantics.specs.Rule.{Rule, strict, defeasible, Program}
 use Rattle.semantics.specs.Meaning.{undefeated, unlessEmpty, remainder, quotient}
 use Rattle.semantics.specs.Translation.{recordLength}
 use Rattle.record.specs.Layout.{encodedRule, encodedRules, encodedEnd, encodedProgram}
@@ -15,7 +15,7 @@ use Rattle.record.proofs.Laws.Layout.{length-encoded-rule}
 use Rattle.emit.proofs.Laws.Stands.{length-end}
 use Rattle.quotient.specs.Quotient.{remainderRule}
 use Rattle.quotient.specs.Writing.{remainderBytes, quotientOf}
-use Rattle.quotient.proofs.Laws.Options.{undefeated-few}
+use Rattle.semantics.proofs.Laws.Meaning.{undefeated-few}
 use Rattle.quotient.proofs.Laws.Program.{leftBytes, length-left-rule, length-left-nil}
 
 -- what is left of a rule is no longer than its record

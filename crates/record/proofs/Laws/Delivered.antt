@@ -11,7 +11,6 @@ use Rattle.record.specs.declared.Reason.the-variants.{OutputShort}
 use Rattle.record.specs.declared.Refusal.{Refusal}
 use Rattle.record.specs.declared.Written.the-variants.{Length, Refused}
 use Rattle.record.specs.Refusal.{refusal}
-use Rattle.record.specs.declared.Written.{Written}
 use Rattle.record.specs.Result.{Result, accepted, refused, Outcome, delivered}
 use Rattle.record.specs.Meets.{Meets}
 

@@ -29,13 +29,13 @@ use Rattle.record.proofs.Laws.Result.{refused-accepted, accepted-eq, an
 use Rattle.record.proofs.Laws.Steps.{rules-refused, rules-rule, rules-end}
 
 -- a step that is a rule, the end or a refusal is that record
-step-rule : (e : Result Entry) (size : ℕ) → stepOf e ≡ Step.Rule size → (r : Rule) × (e ≡ accepted (rule r size))
+pub step-rule : (e : Result Entry) (size : ℕ) → stepOf e ≡ Step.Rule size → (r : Rule) × (e ≡ accepted (rule r size))
 unfolding stepOf
 step-rule (accepted (rule r k)) size e = let q : k ≡ size = cc in (r, ap (λ (m : ℕ). accepted (rule r m)) q)
 step-rule (accepted end) size e = let z : _≡_ {A = ℕ} 0 1 = cc in absurd (omega arith)
 step-rule (refused x) size e = let z : _≡_ {A = ℕ} 0 1 = cc in absurd (omega arith)
 
-step-end : (e : Result Entry) → stepOf e ≡ Step.End → e ≡ accepted end
+pub step-end : (e : Result Entry) → stepOf e ≡ Step.End → e ≡ accepted end
 unfolding stepOf
 step-end (accepted (rule r k)) e = let z : _≡_ {A = ℕ} 0 1 = cc in absurd (omega arith)
 step-end (accepted end) e = refl

@@ -37,13 +37,6 @@ module _ (s : List ℕ) (at : ℕ) where
       back : suc n ≡ suc (suc n) - 1
       back = omega arith
 
-  -- the last record
-  pub walks-last : (n : ℕ) → n ≤ 1 → Walks s at n → at + recordSize (drop at s) ≤ length s
-  unfolding Walks
-  walks-last zero h w = absurd w
-  walks-last (suc zero) h w = w
-  walks-last (suc (suc n)) h w = absurd (omega arith)
-
   pub walked-last : (n : ℕ) → n ≤ 1 → Walks s at n → walked s at n ≡ record { start = at; size = recordSize (drop at s) }
   unfolding Walks walked
   walked-last zero h w = absurd w

@@ -1,5 +1,5 @@
 -- How code builds the masks and clauses of a list's literals, and what a mask picks, one literal or one rule at a time.
--- In order: lists without repeats; a literal's position; some literals; clauses; what is picked; what is found.
+-- In order: lists without repeats; a literal's position; clauses; what is picked; what is found.
 -- Assumes nothing.
 use Prim.Native.Nat.{ℕ, zero, suc, _-_, _^_, _<_}
 use native.Mathlib.Nat.{le-of-suc-le-suc, not-suc-le-zero}
@@ -8,7 +8,6 @@ use mathlib.Core.Path.{_≡_, sym, ap, subst, _∙_}
 use mathlib.Core.Bool.{Bool, true, false, cond, not}
 use mathlib.Core.List.{List, [], _∷_, List·Memᴰ}
 use mathlib.Core.Option.{none, some}
-use lib.Bits.{bitOr, or-zero-r}
 use lib.Dec.{T, ltb→lt}
 use lib.ListN.{length, getD}
 use Rattle.literal.specs.declared.Literal.{Literal}
@@ -18,7 +17,6 @@ use Rattle.semantics.specs.Rule.{Remainder}
 use Rattle.semantics.proofs.Laws.Tests.{both, first, second, left, right, fails, refuted, is-true, is-false}
 use Rattle.semantics.proofs.Laws.Set.{same-literal-eq, same-literal-refl, mem-set-of}
 use Rattle.mask.specs.Mask.{has}
-use Rattle.mask.proofs.Laws.Part.{or-assoc}
 use Rattle.search.specs.declared.Found.{Found}
 use Rattle.search.specs.Picked.{distinct, picked, foundIn, maskOf, masksOf, bodiesOf, headsOf}
 
@@ -48,15 +46,6 @@ mask-at (m ∷ ls) (suc p) l z d h e =
     other s =
         fails (setOf ls m) (first (not (setOf ls m)) (distinct ls) d)
         (subst (λ (k : Literal). T (setOf ls k)) (same-literal-eq l m s) (at-in ls p l z (le-of-suc-le-suc h) e))
-
--- a union of positions, one literal further
-pub masks-none : (ls : List Literal) (so : ℕ) → bitOr so (masksOf ls []) ≡ so
-unfolding masksOf
-masks-none ls so = or-zero-r so
-
-pub masks-next : (ls : List Literal) (so : ℕ) (q : Literal) (qs : List Literal) → bitOr so (masksOf ls (q ∷ qs)) ≡ bitOr (bitOr so (maskOf ls q)) (masksOf ls qs)
-unfolding masksOf
-masks-next ls so q qs = sym (or-assoc so (maskOf ls q) (masksOf ls qs))
 
 -- the clauses of one rule more
 module _ (ls : List Literal) (q : Remainder) (qs : List Remainder) where

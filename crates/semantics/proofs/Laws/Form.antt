@@ -91,7 +91,8 @@ pub record Covers (F G : Limits) : Type 0 where
   pub tags : F .tags ≤ G .tags
   pub numbers : F .rules ≤ G .numbers
 
-in-range-mono : (m k n : ℕ) → m ≤ k → T (inRange m n) → T (inRange k n)
+-- a wider range holds what a range holds
+pub in-range-mono : (m k n : ℕ) → m ≤ k → T (inRange m n) → T (inRange k n)
 in-range-mono m k n h y =
     both (leb 1 n) (leb n k) (first (leb 1 n) (leb n m) y)
     (le→leb n k (omega (arith, leb→le n m (second (leb 1 n) (leb n m) y))))

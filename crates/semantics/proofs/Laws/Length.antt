@@ -31,11 +31,6 @@ unfolding recordsLength
 records-length-append [] q = omega arith
 records-length-append (r ∷ p) q = omega (arith, records-length-append p q)
 
-pub translated-lengths-append : (p q : Program) → translatedLengths (p ++ q) ≡ translatedLengths p + translatedLengths q
-unfolding translatedLengths
-translated-lengths-append [] q = omega arith
-translated-lengths-append (r ∷ p) q = omega (arith, translated-lengths-append p q)
-
 -- (4), (5) and (6) take 17, 22 and 17 bytes for each option, and are three rules
 option-length : (t : Tag) (a : SignedAtom) → recordsLength (option t a) ≡ 56
 unfolding recordsLength option holdsIfDerived derivedIfHolds neverBoth recordLength
@@ -53,13 +48,13 @@ options-count t [] = refl
 options-count t (a ∷ h) = omega (arith, options-count t h)
 
 -- what one rule becomes has the length of the sum's part for it, and as many rules as it says
-rule-length : (n : ℕ) (r : Rule) → recordsLength (translatedRule n r) ≡ translatedLength r
+pub rule-length : (n : ℕ) (r : Rule) → recordsLength (translatedRule n r) ≡ translatedLength r
 unfolding translatedRule translatedLength recordsLength recordLength choice allDefeated
 rule-length n (strict h b c) = omega arith
 rule-length n (defeasible t h b c) =
     omega (arith, options-length t h, length-map h (Derived t), length-map h (Defeated t), length-append c (ruleDefeated n ∷ []))
 
-rule-count : (n : ℕ) (r : Rule) → length (translatedRule n r) ≡ translatedCount r
+pub rule-count : (n : ℕ) (r : Rule) → length (translatedRule n r) ≡ translatedCount r
 unfolding translatedRule translatedCount
 rule-count n (strict h b c) = refl
 rule-count n (defeasible t h b c) = omega (arith, options-count t h)

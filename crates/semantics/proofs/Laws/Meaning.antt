@@ -1,13 +1,16 @@
--- Laws of quotients and models: of an append, rule by rule, and each rule's part in words.
--- In order: quotients and models of an append; a model rule by rule; the options that are left; `Kept`, what a model
+-- Laws of quotients and models: rule by rule, and each rule's part in words.
+-- In order: the quotient of an append; a model rule by rule; the options that are left; `Kept`, what a model
 -- of a quotient must give of one rule; minimality in the handier form.
 -- Assumes nothing.
+use Prim.Native.Nat.{suc, _≤_}
+use native.Mathlib.Omega.{arith}
 use mathlib.Core.Path.{_≡_, refl, sym, _∙_, ap, subst}
-use mathlib.Core.Bool.{Bool, true, false, cond, not, _&&_, _||_, and-assoc}
+use mathlib.Core.Bool.{Bool, true, false, cond, not, _&&_, _||_}
 use mathlib.Core.Logic.{_↔_, _⊎_, inl, inr}
 use mathlib.Core.List.{List, [], _∷_, _++_, List·Memᴰ, List·Memᴰ·head, List·Memᴰ·tail, nil≢cons}
 use mathlib.Core.Option.{Option, none, some}
 use lib.Dec.{T}
+use lib.ListN.{length}
 use Rattle.literal.specs.declared.Tag.{Tag}
 use Rattle.literal.specs.declared.SignedAtom.{SignedAtom}
 use Rattle.literal.specs.declared.Literal.{Literal}
@@ -30,12 +33,6 @@ quotient-append [] q s = refl
 quotient-append (r ∷ p) q s =
     ap (withRemainder (remainder r s)) (quotient-append p q s) ∙ with-remainder-append (remainder r s) (quotient p s) (quotient q s)
 
--- a model of an append is one of both parts
-pub models-append : (qs rs : List Remainder) (u : LiteralSet) → models (qs ++ rs) u ≡ (models qs u && models rs u)
-unfolding models
-models-append [] rs u = refl
-models-append (q ∷ qs) rs u = ap (λ b. holds q u && b) (models-append qs rs u) ∙ sym (and-assoc (holds q u) (models qs u) (models rs u))
-
 models-with : (o : Option Remainder) (qs : List Remainder) (u : LiteralSet) → models (withRemainder o qs) u ≡ (satisfied o u && models qs u)
 unfolding models withRemainder satisfied
 models-with none qs u = refl
@@ -51,6 +48,25 @@ models-quotient (r ∷ p) s u =
 -- some option of h is not defeated in s and is in u
 abbrev pub Chosen : Tag → List SignedAtom → LiteralSet → LiteralSet → Type 0
 Chosen t h s u = (a : SignedAtom) × List·Memᴰ a h × (T (s (Defeated t a)) → ⊥) × T (u (Signed a))
+
+-- what is left of one option and of others
+pub undefeated-cons : (t : Tag) (a : SignedAtom) (h : List SignedAtom) (s : LiteralSet) → undefeated t (a ∷ h) s ≡ undefeated t (a ∷ []) s ++ undefeated t h s
+unfolding undefeated
+undefeated-cons t a h s = go (s (Defeated t a))
+  where
+    go : (x : Bool) → cond x (undefeated t h s) (Signed a ∷ undefeated t h s) ≡ cond x [] (Signed a ∷ []) ++ undefeated t h s
+    go true = refl
+    go false = refl
+
+-- no more are left than there are
+pub undefeated-few : (t : Tag) (h : List SignedAtom) (s : LiteralSet) → length (undefeated t h s) ≤ length h
+unfolding undefeated
+undefeated-few t [] s = omega arith
+undefeated-few t (a ∷ h) s = go (s (Defeated t a)) (undefeated-few t h s)
+  where
+    go : (x : Bool) → length (undefeated t h s) ≤ length h → length (cond x (undefeated t h s) (Signed a ∷ undefeated t h s)) ≤ suc (length h)
+    go true k = omega arith
+    go false k = omega arith
 
 -- the options are all defeated where none is left
 pub undefeated-none : (t : Tag) (h : List SignedAtom) (s : LiteralSet) → T (all (λ a. s (Defeated t a)) h) → undefeated t h s ≡ []

@@ -18,6 +18,7 @@ use Rattle.semantics.specs.Form.{keepsRule, keepsRules}
 use Rattle.semantics.specs.Translation.{translatedRule, translationFrom, translation, translationLength, recordLength, translatedLengths, translatedCount}
 use Rattle.semantics.proofs.Laws.Tests.{first, second}
 use Rattle.semantics.proofs.Laws.Form.{keeps-each}
+use Rattle.semantics.proofs.Laws.Length.{rule-count}
 use Rattle.record.specs.Layout.{encodedRules, encodedEnd, encodedProgram, keeps}
 use Rattle.record.specs.Code.{recordSize}
 use Rattle.record.proofs.Laws.Reading.{parsed-sound}
@@ -26,9 +27,9 @@ use Rattle.emit.proofs.Laws.Fields.{naf-count}
 use Rattle.emit.proofs.Laws.Stands.{More, stands-open, stands-end, stands-more, stands-start}
 use Rattle.expand.specs.Writing.{lengthAt, countAt}
 use Rattle.expand.proofs.Laws.Options.{encoded-rules-append}
-use Rattle.expand.proofs.Laws.Sizes.{told, length-translated, count-translated}
+use Rattle.expand.proofs.Laws.Sizes.{told, length-translated}
 use Rattle.translate.specs.Translate.{translated}
-use Rattle.translate.specs.Measure.{Translatable}
+use Rattle.translate.specs.Pass.{Translatable}
 use Rattle.translate.proofs.Laws.Translate.{translated-written}
 
 -- three rules at most for five bytes of a record, which has seven at least
@@ -49,7 +50,7 @@ rest-rule n made r p =
     ∙ append-assoc (encodedRules (translatedRule n r)) (encodedRules (translationFrom (n + 1) p)) _
   where
     more : made + length (translatedRule n r ++ translationFrom (n + 1) p) ≡ made + translatedCount r + length (translationFrom (n + 1) p)
-    more = omega (arith, length-append (translatedRule n r) (translationFrom (n + 1) p), count-translated n r)
+    more = omega (arith, length-append (translatedRule n r) (translationFrom (n + 1) p), rule-count n r)
 
 -- no rule more: the end record
 rest-nil : (n made : ℕ) → rest n made [] ≡ encodedEnd made

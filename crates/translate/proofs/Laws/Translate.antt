@@ -23,9 +23,10 @@ use Rattle.record.specs.Reading.{parsed}
 use Rattle.record.proofs.Laws.Layout.{length-encoded-program}
 use Rattle.record.proofs.Laws.Delivered.{delivered-fits, meets-refused, meets-short, meets-written}
 use Rattle.translate.specs.Translate.{translatedBytes, translated}
-use Rattle.translate.specs.Measure.{measured, Writable, Translatable}
+use Rattle.measure.specs.Measure.{measured, Writable}
+use Rattle.translate.specs.Pass.{Translatable}
 use Rattle.record.specs.Meets.{Meets}
-use Rattle.translate.proofs.Laws.Measure.{measured-length, measured-refused}
+use Rattle.measure.proofs.Laws.Measure.{measured-length, measured-refused}
 
 -- a translation is as long as was measured
 pub length-translated : (p : Program) → length (encodedProgram (translation p)) ≡ translationLength p

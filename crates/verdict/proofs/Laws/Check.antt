@@ -28,10 +28,10 @@ use Rattle.litset.specs.declared.SetReading.{SetReading}
 use Rattle.litset.specs.Reading.{parsedSet, setReading}
 use Rattle.litset.proofs.Laws.Reading.{keeps-set-most, parsed-set-sound}
 use Rattle.litset.proofs.Laws.Answered.{set-refused, set-literals}
-use Rattle.verdict.specs.declared.Verdict.{Verdict}
+use Rattle.judge.specs.declared.Verdict.{Verdict}
 use Rattle.verdict.specs.declared.Check.{Check}
 use Rattle.verdict.specs.Check.{checked}
-use Rattle.verdict.specs.Decide.{clauseRoom, Judgeable, Judged}
+use Rattle.judge.specs.Decide.{Judgeable, Judged}
 use Rattle.verdict.specs.Meets.{MeetsCheck, Checkable, programRefusal, setRefusal}
 use Rattle.verdict.proofs.Laws.Found.{found-program-refused, found-set-refused, found-short, found-finding, meets-refusal, meets-finding}
 
@@ -63,13 +63,13 @@ module _ (F : Limits) (s k out : List ℕ) where
 
       module _ (bytes-s : Bytes s) (bytes-k : Bytes k) (room : length k ≤ length out) where
         -- what was read can be judged
-        pub check-judges : Checkable F → Judgeable s k n (length out)
+        pub check-judges : {b h : ℕ} → Checkable F b h → Judgeable s k n b h (length out)
         unfolding keeps
         check-judges c =
             let p = program .0 in
             let sound = parsed-sound F s p bytes-s (program .1) in
             let kept = first (keepsRules F p) (leb (length (encodedProgram p)) (F .length)) (sound .1) in
-            let rules : length p ≤ clauseRoom = omega (arith, keeps-count F p kept, c .rules) in
+            let count = keeps-count F p kept in
             let few = keeps-set-most F (F .checked) (literals .0) (parsed-set-sound F (F .checked) k (literals .0) bytes-k (literals .1) .1) in
             record {
               buildable = record {
@@ -84,7 +84,7 @@ module _ (F : Limits) (s k out : List ℕ) where
                 held = literals .1;
                 count = literals .2;
                 few = omega (arith, few, c .checked, literals .2);
-                room = (rules, rules);
+                room = (omega (arith, count, c .rules .0), omega (arith, count, c .rules .1));
               };
               room = room;
             }

@@ -17,10 +17,11 @@ use Rattle.record.specs.Result.{Result, accepted, refused, andThen, refuseIf}
 use Rattle.record.specs.Reading.{parsed}
 use Rattle.record.proofs.Laws.Result.{accepted-and-then, refused-and-then, refuse-if-true, refuse-if-false}
 use Rattle.litset.specs.Reading.{parsedSet}
-use Rattle.verdict.specs.declared.Verdict.{Verdict}
+use Rattle.judge.specs.declared.Verdict.{Verdict}
 use Rattle.verdict.specs.declared.Check.{Check}
 use Rattle.buffer.specs.Write.{write}
-use Rattle.verdict.specs.Check.{found, verdictOf, witness, Checked, checkedOf, checked}
+use Rattle.judge.specs.Verdict.{verdictOf, witness}
+use Rattle.verdict.specs.Check.{found, Checked, checkedOf, checked}
 use Rattle.verdict.specs.Meets.{MeetsCheck}
 
 module _ (F : Limits) (s k out : List ℕ) where

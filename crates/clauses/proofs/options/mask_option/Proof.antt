@@ -6,7 +6,7 @@ use denote.Ref.{now}
 use Rattle.literal.specs.declared.SignedAtom.{SignedAtom}
 use Rattle.literal.specs.declared.Literal.the-variants.{Signed}
 use Rattle.clauses.specs.Rule.{literalMask}
-use Rattle.clauses.proofs.Laws.Left.{left-defeated, left-kept}
+use Rattle.clauses.proofs.Laws.Left.{mask-defeated, mask-kept}
 use Rattle.clauses.proofs.options.mask_option.Statement.{statement}
 use Rattle.clauses.proofs.options.mask_option.Tie as tie
 
@@ -16,7 +16,7 @@ is-defeated-requires c κs = search needs
 returns : tie.Need-returns
 returns c =
     let a = c .before .before .before .before .args in
-    sym (left-defeated (now (a .t)) (now (a .set)) (a .n) (a .at) (sym (c .before .is-defeated .ensures) ∙ c .if1 .taken))
+    sym (mask-defeated (now (a .t)) (now (a .set)) (a .n) (a .at) (sym (c .before .is-defeated .ensures) ∙ c .if1 .taken))
 
 option-at-requires : tie.Need-option-at-requires
 option-at-requires c κs = search needs
@@ -29,7 +29,7 @@ returns-2 c =
     let a = c .before .before .before .before .before .before .args in
     let mask = c .mask-literal .ensures ∙ ap (λ (o : SignedAtom). literalMask (now (a .set)) (a .n) (Signed o)) (c .before .option-at .ensures) in
     ap (λ k. record { count = 1; mask = k }) mask
-    ∙ sym (left-kept (now (a .t)) (now (a .set)) (a .n) (a .at) (sym (c .before .before .before .is-defeated .ensures) ∙ c .before .before .if1 .left))
+    ∙ sym (mask-kept (now (a .t)) (now (a .set)) (a .n) (a .at) (sym (c .before .before .before .is-defeated .ensures) ∙ c .before .before .if1 .left))
 
 pub mask-option-spec : {M : Type 1} → statement M
 mask-option-spec =

@@ -10,9 +10,11 @@ use lib.ListN.{length}
 use borrow.Author.Needs.{needs}
 use denote.Ref.{now}
 use Rattle.clauses.specs.Position.{union}
-use Rattle.clauses.specs.Rule.{literalMask, leftAt}
+use Rattle.remains.specs.Left.{leftAt}
+use Rattle.remains.proofs.Laws.Left.{left-none}
+use Rattle.clauses.specs.Rule.{literalMask}
 use Rattle.clauses.proofs.Laws.Union.{union-start, union-end}
-use Rattle.clauses.proofs.Laws.Left.{left-count, left-mask, left-none, left-one, left-gathered}
+use Rattle.clauses.proofs.Laws.Left.{count-first, mask-first, count-one, left-gathered}
 use Rattle.clauses.proofs.options.mask_options.Statement.{statement}
 use Rattle.clauses.proofs.options.mask_options.Tie as tie
 
@@ -32,7 +34,7 @@ add-count : tie.Need-add-count Inv-loop μ-loop
 add-count c =
     let a = c .before .before .before .before .before .before .args in
     let l = c .before .before .before .loop in
-    omega (arith, left-one (now (a .t)) (now (a .set)) (a .n) (l .at) (c .before .mask-option .result) (c .before .mask-option .ensures), l .inv .0, l .inv .1, c .before .before .loop-test .taken)
+    omega (arith, count-one (now (a .t)) (now (a .set)) (a .n) (l .at) (c .before .mask-option .result) (c .before .mask-option .ensures), l .inv .0, l .inv .1, c .before .before .loop-test .taken)
 
 add-at : tie.Need-add-at Inv-loop μ-loop
 add-at c = search needs
@@ -50,9 +52,9 @@ loop-again c =
     let one = c .before .before .mask-option in
     let more = c .before .before .before .loop-test .taken in (
       search needs,
-      omega (arith, l .inv .1, more, left-one (now (a .t)) (now (a .set)) (a .n) (l .at) (one .result) (one .ensures)),
-      omega (arith, l .inv .2, left-count (now (a .t)) (now (a .set)) (a .n) (l .at) (l .left) (one .result) more (one .ensures)),
-      l .inv .3 ∙ left-mask (now (a .t)) (now (a .set)) (a .n) (l .at) (l .left) (l .mask) (one .result) more (one .ensures),
+      omega (arith, l .inv .1, more, count-one (now (a .t)) (now (a .set)) (a .n) (l .at) (one .result) (one .ensures)),
+      omega (arith, l .inv .2, count-first (now (a .t)) (now (a .set)) (a .n) (l .at) (l .left) (one .result) more (one .ensures)),
+      l .inv .3 ∙ mask-first (now (a .t)) (now (a .set)) (a .n) (l .at) (l .left) (l .mask) (one .result) more (one .ensures),
     )
 
 returns : tie.Need-returns Inv-loop μ-loop

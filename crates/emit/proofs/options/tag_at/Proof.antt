@@ -2,7 +2,6 @@
 -- Assumes nothing.
 use mathlib.Core.Path.{ap}
 use borrow.Author.Needs.{needs}
-use Rattle.literal.specs.declared.Tag.{Tag}
 use Rattle.emit.specs.Options.{tagAt}
 use Rattle.emit.proofs.options.tag_at.Statement.{statement}
 use Rattle.emit.proofs.options.tag_at.Tie as tie

@@ -3,7 +3,7 @@
 use mathlib.Core.Path.{sym, _∙_}
 use borrow.Author.Needs.{needs}
 use denote.Ref.{now}
-use Rattle.extend.proofs.Laws.Outcome.{program-refused, member-refused, both-read}
+use Rattle.extend.proofs.Laws.Outcome.{extended-refused, member-refused, both-read}
 use Rattle.litset.proofs.Laws.Answered.{program-refusal, set-refusal}
 use Rattle.extend.proofs.extend.extend.Statement.{statement}
 use Rattle.extend.proofs.extend.extend.Tie as tie
@@ -24,7 +24,7 @@ returns : tie.Need-returns
 returns c =
     let a = c .before .before .before .before .before .before .before .args in
     let told = c .before .enum-told2 .given .1 in
-    program-refused (a .lim) (now (a .s)) (now (a .k)) (a .out .now) _ _ (c .refused-program .ensures ∙ program-refusal told) (sym (c .before .before .before .read .ensures) ∙ told)
+    extended-refused (a .lim) (now (a .s)) (now (a .k)) (a .out .now) _ _ (c .refused-program .ensures ∙ program-refusal told) (sym (c .before .before .before .read .ensures) ∙ told)
 
 read-set-requires : tie.Need-read-set-requires
 read-set-requires c κs = search needs

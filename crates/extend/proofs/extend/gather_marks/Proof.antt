@@ -3,7 +3,8 @@
 use native.Mathlib.Omega.{arith}
 use lib.ListN.{length-take}
 use borrow.Author.Needs.{needs}
-use Rattle.extend.proofs.Laws.Gained.{gained-fits, gained-sorted}
+use Rattle.marks.proofs.Laws.Gained.{gained-fits}
+use Rattle.extend.proofs.Laws.Gathered.{gained-sorted}
 use Rattle.extend.proofs.extend.gather_marks.Statement.{statement}
 use Rattle.extend.proofs.extend.gather_marks.Tie as tie
 

@@ -1,6 +1,5 @@
 -- `read::read_set` meets its contract: at each return the tests that led there say which step of the definition ends it.
 -- Assumes nothing.
-use Prim.Native.Nat.{_+_, _*_}
 use native.Mathlib.Omega.{arith}
 use mathlib.Core.Path.{sym, _∙_, ap}
 use borrow.Author.Needs.{needs}

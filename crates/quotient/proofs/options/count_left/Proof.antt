@@ -3,11 +3,11 @@
 -- Assumes nothing.
 use Prim.Native.Nat.{_+_, _*_, _≤_}
 use native.Mathlib.Omega.{arith}
-use mathlib.Core.Path.{_≡_, _∙_, ap}
+use mathlib.Core.Path.{_≡_, ap}
 use lib.ListN.{length}
 use denote.Ref.{now}
-use Rattle.quotient.specs.Writing.{leftAt}
-use Rattle.quotient.proofs.Laws.Options.{left-count, left-none, left-few}
+use Rattle.remains.specs.Left.{leftAt}
+use Rattle.remains.proofs.Laws.Left.{left-count, left-none, left-few}
 use borrow.Author.Needs.{needs}
 use Rattle.quotient.proofs.options.count_left.Statement.{statement}
 use Rattle.quotient.proofs.options.count_left.Tie as tie

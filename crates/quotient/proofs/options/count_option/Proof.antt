@@ -3,7 +3,7 @@
 use mathlib.Core.Path.{sym, _∙_, ap}
 use lib.ListN.{length}
 use denote.Ref.{now}
-use Rattle.quotient.proofs.Laws.Options.{left-defeated, left-kept}
+use Rattle.remains.proofs.Laws.Left.{left-defeated, left-kept}
 use borrow.Author.Needs.{needs}
 use Rattle.quotient.proofs.options.count_option.Statement.{statement}
 use Rattle.quotient.proofs.options.count_option.Tie as tie

@@ -10,8 +10,9 @@ use Rattle.buffer.specs.Write.{write}
 use Rattle.buffer.proofs.Laws.Next.{write-left}
 use Rattle.record.specs.Layout.{encodedLiterals}
 use Rattle.record.proofs.Laws.Layout.{length-encoded-literals}
-use Rattle.quotient.specs.Writing.{leftAt}
-use Rattle.quotient.proofs.Laws.Options.{left-count, left-bytes, left-none, left-few, step-room, write-none}
+use Rattle.remains.specs.Left.{leftAt}
+use Rattle.remains.proofs.Laws.Left.{left-count, left-none, left-few}
+use Rattle.quotient.proofs.Laws.Options.{left-bytes, step-room, write-none}
 use borrow.Author.Needs.{needs}
 use Rattle.quotient.proofs.options.write_left.Statement.{statement}
 use Rattle.quotient.proofs.options.write_left.Tie as tie

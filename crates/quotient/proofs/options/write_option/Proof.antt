@@ -1,17 +1,15 @@
 -- `options::write_option` meets its contract, by whether the option is defeated.
 -- Assumes nothing.
 use native.Mathlib.Omega.{arith}
-use mathlib.Core.Path.{_≡_, sym, _∙_, ap}
-use mathlib.Core.List.{List, []}
+use mathlib.Core.Path.{sym, _∙_, ap}
 use lib.ListN.{length}
 use denote.Ref.{now}
 use Rattle.buffer.specs.Write.{write}
-use Rattle.literal.specs.declared.Literal.{Literal}
 use Rattle.literal.specs.declared.Literal.the-variants.{Signed}
 use Rattle.literal.specs.Literal.{encoded}
 use Rattle.record.specs.Layout.{encodedLiterals}
-use Rattle.quotient.specs.Writing.{leftAt}
-use Rattle.quotient.proofs.Laws.Options.{left-defeated, left-kept, write-none, write-one}
+use Rattle.remains.proofs.Laws.Left.{left-defeated, left-kept}
+use Rattle.quotient.proofs.Laws.Options.{write-none, write-one}
 use borrow.Author.Needs.{needs}
 use Rattle.quotient.proofs.options.write_option.Statement.{statement}
 use Rattle.quotient.proofs.options.write_option.Tie as tie

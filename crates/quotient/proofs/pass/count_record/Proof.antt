@@ -1,7 +1,6 @@
 -- `pass::count_record` meets its contract.
 -- Assumes nothing.
 use borrow.Author.Tests.{eq-eqb, ne-eqb}
-use borrow.Author.Needs.{needs}
 use Rattle.quotient.proofs.pass.count_record.Statement.{statement}
 use Rattle.quotient.proofs.pass.count_record.Tie as tie
 

@@ -1,7 +1,7 @@
 -- `pass::is_room` meets its contract: a quotient is no longer than its program, and else its length is measured.
 -- Assumes nothing.
 use native.Mathlib.Omega.{arith}
-use mathlib.Core.Path.{sym, _∙_, ap}
+use mathlib.Core.Path.{sym, ap}
 use lib.Dec.{leb}
 use lib.ListN.{length}
 use denote.Ref.{now}
@@ -9,7 +9,6 @@ use borrow.Author.Tests.{le-leb}
 use Rattle.litset.specs.Keys.{keySet}
 use Rattle.quotient.specs.Writing.{quotientOf}
 use Rattle.quotient.proofs.Laws.Short.{quotient-of-short}
-use borrow.Author.Needs.{needs}
 use Rattle.quotient.proofs.pass.is_room.Statement.{statement}
 use Rattle.quotient.proofs.pass.is_room.Tie as tie
 

@@ -4,7 +4,7 @@
 use Prim.Native.Nat.{_+_, _-_, _≤_}
 use native.Mathlib.Omega.{arith}
 use mathlib.Core.Path.{_≡_, refl, _∙_, sym, ap, subst}
-use lib.ListN.{length, drop, length-drop}
+use lib.ListN.{length, length-drop}
 use denote.Ref.{now}
 use Rattle.buffer.specs.Write.{write}
 use Rattle.record.specs.Code.{recordSize}

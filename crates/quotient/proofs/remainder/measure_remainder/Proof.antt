@@ -4,8 +4,8 @@ use native.Mathlib.Omega.{arith}
 use mathlib.Core.Path.{sym, _∙_, ap}
 use lib.ListN.{length, getD}
 use denote.Ref.{now}
-use Rattle.quotient.specs.Writing.{leftAt, optionBytes}
-use Rattle.quotient.proofs.Laws.Options.{left-few}
+use Rattle.remains.specs.Left.{leftAt}
+use Rattle.remains.proofs.Laws.Left.{left-few}
 use Rattle.quotient.proofs.Laws.Remainder.{remainder-removed, remainder-defeasible, remainder-strict, length-strict-bytes, length-option-bytes, option-bytes-none}
 use borrow.Author.Needs.{needs}
 use Rattle.quotient.proofs.remainder.measure_remainder.Statement.{statement}

@@ -1,21 +1,23 @@
 -- `remainder::write_options` meets its contract: the options that are left, the positive literals, and the header before them.
 -- Assumes nothing.
-use Prim.Native.Nat.{_+_, _*_, _≤_, _<_}
+use Prim.Native.Nat.{_+_, _*_}
 use native.Mathlib.Omega.{arith}
 use mathlib.Core.Path.{_≡_, sym, _∙_, ap}
 use mathlib.Core.List.{_++_}
-use lib.ListN.{length, getD, take, drop, length-append}
+use lib.ListN.{length, getD, take, drop}
 use denote.Ref.{now}
 use Rattle.buffer.specs.Write.{write}
 use Rattle.buffer.proofs.Laws.Write.{write-nil}
+use Rattle.buffer.proofs.Laws.Before.{write-ahead}
 use Rattle.buffer.proofs.Laws.Next.{write-behind}
 use Rattle.record.specs.Layout.{encodedLiterals}
 use Rattle.record.proofs.Laws.Layout.{length-encoded-literals}
 use Rattle.emit.specs.Header.{header}
 use Rattle.emit.proofs.Laws.Stores.{length-header}
-use Rattle.quotient.specs.Writing.{leftAt, optionBytes}
-use Rattle.quotient.proofs.Laws.Options.{left-few, write-empty}
-use Rattle.quotient.proofs.Laws.Remainder.{length-option-bytes, length-positives, option-bytes-none, option-bytes-some, option-bytes-short, write-before}
+use Rattle.remains.specs.Left.{leftAt}
+use Rattle.remains.proofs.Laws.Left.{left-few}
+use Rattle.quotient.proofs.Laws.Options.{write-empty}
+use Rattle.quotient.proofs.Laws.Remainder.{length-option-bytes, option-bytes-none, option-bytes-some, option-bytes-short}
 use borrow.Author.Needs.{needs}
 use Rattle.quotient.proofs.remainder.write_options.Statement.{statement}
 use Rattle.quotient.proofs.remainder.write_options.Tie as tie
@@ -160,8 +162,8 @@ returns-3 c =
     let body = write-behind d (a .to + 7) (encodedLiterals ls) _ ps (omega (arith, long, c .before .before .before .before .before .before .before .before .before .before .before .before .before .before .before .before .before .before .before .pre .1 .1 .1)) (omega (arith, found, length-encoded-literals ls)) (c .before .before .before .before .before .before .before .before .before .before .before .write-left .ensures .1) (c .before .before .before .before .before .before .copy .ensures) in
     let top = c .before .before .write-header .ensures ∙ ap (λ n. write (c .before .before .before .before .before .before .copy .last .1 .1 .1 .0) (a .to) (header n (getD (now (a .t)) 5 0) 0)) found in (
       omega (arith, found, long),
-      write-before d _ _ (a .to) (a .to + 7) hd (encodedLiterals ls ++ ps) (omega (arith, length-header (length ls) (getD (now (a .t)) 5 0) 0))
-          (omega (arith, long, c .before .before .before .before .before .before .before .before .before .before .before .before .before .before .before .before .before .before .before .pre .1 .1 .1, length-append (encodedLiterals ls) ps, length-encoded-literals ls, length-positives (now (a .t)) (c .before .before .before .before .before .before .before .before .before .before .before .before .before .before .before .before .before .before .before .pre .0))) body top
+      write-ahead d (a .to) hd (a .to + 7) (encodedLiterals ls ++ ps) (omega (arith, long, c .before .before .before .before .before .before .before .before .before .before .before .before .before .before .before .before .before .before .before .pre .1 .1 .1, length-header (length ls) (getD (now (a .t)) 5 0) 0))
+          (omega (arith, length-header (length ls) (getD (now (a .t)) 5 0) 0)) body top
           ∙ ap (write d (a .to)) (option-bytes-some (now (a .t)) ls (λ e. c .before .before .before .before .before .before .before .before .if2 .left (found ∙ e))),
     )
 

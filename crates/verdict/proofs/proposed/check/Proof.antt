@@ -23,7 +23,7 @@ program-refusal-of-requires c κs = search needs
 returns : tie.Need-returns
 returns c =
     let at-read = c .before .before .before in
-    let a = at-read .before .before .before .before .args in
+    let a = at-read .before .before .before .before .before .before .args in
     checked-program-refused (a .lim) (now (a .s)) (now (a .k)) (a .out .now) (at-read .read .ensures) (c .before .enum-told2 .given .1) (c .program-refusal-of .ensures)
 
 read-set-requires : tie.Need-read-set-requires
@@ -43,7 +43,7 @@ returns-2 c =
     let at-set = c .before .before .before in
     let at-program = at-set .before in
     let at-read = at-program .before .before in
-    let a = at-read .before .before .before .before .args in
+    let a = at-read .before .before .before .before .before .before .args in
     checked-set-refused (a .lim) (now (a .s)) (now (a .k)) (a .out .now) (sym (at-read .read .ensures) ∙ at-program .enum-told .given .1)
     (at-set .read-set .ensures) (c .before .enum-told3 .given .1) (c .set-refusal-of .ensures)
 
@@ -53,18 +53,18 @@ returns-3 c =
     let at-set = at-known .before .before in
     let at-program = at-set .before in
     let at-read = at-program .before .before in
-    let a = at-read .before .before .before .before .args in
+    let a = at-read .before .before .before .before .before .before .args in
     checked-short (a .lim) (now (a .s)) (now (a .k)) (a .out .now) (sym (at-read .read .ensures) ∙ at-program .enum-told .given .1)
     (sym (at-set .read-set .ensures) ∙ at-known .set .given .1) (omega (arith, c .if1 .taken))
 
 judge-requires : tie.Need-judge-requires
 judge-requires c κs =
-    let at-room = c .before in
+    let at-room = c .before .before .before in
     let at-known = at-room .before .before in
     let at-set = at-known .before .before in
     let at-program = at-set .before in
     let at-read = at-program .before .before in
-    let slices = at-read .before in
+    let slices = at-read .before .before .before in
     let start = slices .before .before .before in
     let a = start .args in
     check-judges (a .lim) (now (a .s)) (now (a .k)) (a .out .now) (sym (at-read .read .ensures) ∙ at-program .enum-told .given .1)
@@ -74,15 +74,21 @@ judge-requires c κs =
 same-length : tie.Need-same-length
 same-length c = search needs
 
+same-length-2 : tie.Need-same-length-2
+same-length-2 c = search needs
+
+same-length-3 : tie.Need-same-length-3
+same-length-3 c = search needs
+
 returns-4 : tie.Need-returns-4
 returns-4 c =
-    let at-judge = c .before .before in
-    let at-room = at-judge .before .before in
+    let at-judge = c .before .before .before .before .before .before in
+    let at-room = at-judge .before .before .before .before in
     let at-known = at-room .before .before in
     let at-set = at-known .before .before in
     let at-program = at-set .before in
     let at-read = at-program .before .before in
-    let slices = at-read .before in
+    let slices = at-read .before .before .before in
     let a = slices .before .before .before .args in
     checked-found (a .lim) (now (a .s)) (now (a .k)) (a .out .now) (sym (at-read .read .ensures) ∙ at-program .enum-told .given .1)
     (sym (at-set .read-set .ensures) ∙ at-known .set .given .1) (λ i. slices .before .before .shared-slice-known .given i .fits) (λ i. slices .before .shared-slice-known2 .given i .fits)
@@ -105,4 +111,6 @@ check-spec =
     returns-3
     judge-requires
     same-length
+    same-length-2
+    same-length-3
     returns-4)

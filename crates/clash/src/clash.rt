@@ -1,0 +1,44 @@
+// The first literal of a set whose opposite is in the set.
+
+use buffer::get::get_number;
+use literal::order::make_key;
+use litset::search::holds;
+ghost use mathlib.Core.Path.{_≡_};
+ghost use Prim.Native.Nat.{_+_, _*_, _≤_};
+ghost use lib.ListN.{length};
+ghost use Rattle.litset.specs.Keys.{Ascends};
+ghost use Rattle.clash.specs.Clash.{opposedIn, clashAt};
+
+// Whether the opposite of the literal at the start of `t` is in the set. Kinds 0 and 1 are each other's opposite, marks
+// have none.
+fn is_opposed(set: &[u8], n: usize, t: &[u8]) -> bool
+    requires { ⌜ 4 + 5 * n ≤ length (now set) ⌝ }
+    requires { ⌜ Ascends (now set) n ⌝ }
+    requires { ⌜ 5 ≤ length (now t) ⌝ }
+    ensures { λ r. ⌜ r ≡ opposedIn (now (set .entry)) n (now (t .entry)) ⌝ }
+{
+    let kind = t[0];
+    if 1 < kind {
+        return false;
+    }
+    let opposite = make_key(1 - kind, get_number(t, 1), get_number(t, 3));
+    holds(set, n, opposite)
+}
+
+// The position, from 1, of the first of the set's `n` literals whose opposite is in the set; 0 where there is none.
+pub fn find_clash(set: &[u8], n: usize) -> usize
+    requires { ⌜ 4 + 5 * n ≤ length (now set) ⌝ }
+    requires { ⌜ Ascends (now set) n ⌝ }
+    ensures { λ r. ⌜ r ≡ clashAt (now (set .entry)) n 1 4 n ⌝ }
+{
+    let mut at: usize = 4;
+    let mut k: usize = 1;
+    while k <= n {
+        if is_opposed(set, n, &set[at..]) {
+            return k;
+        }
+        at += 5;
+        k += 1;
+    }
+    0
+}

@@ -1,0 +1,3 @@
+// The marks that a program's rules add to a set, collected as keys.
+
+pub mod marks;

@@ -1,0 +1,3 @@
+// What the filter program prints.
+
+pub mod filter;

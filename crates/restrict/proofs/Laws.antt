@@ -1,0 +1,4 @@
+pub mod Restriction
+pub mod Front
+pub mod Prefix
+pub mod Restrict
