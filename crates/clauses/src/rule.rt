@@ -4,12 +4,12 @@ use crate::Clause;
 use crate::masks::mask_heads;
 use crate::masks::mask_positives;
 use crate::options::mask_options;
-use remains::is_removed;
+use litset::member::is_any_member;
 ghost use mathlib.Core.Path.{_≡_};
 ghost use Prim.Native.Nat.{_+_, _*_, _≤_};
-ghost use lib.ListN.{length};
+ghost use lib.ListN.{length, getD};
 ghost use Rattle.record.specs.Code.{recordSize};
-ghost use Rattle.litset.specs.Keys.{Ascends};
+ghost use Rattle.litset.specs.Keys.{Ascends, anyKey};
 ghost use Rattle.clauses.specs.Rule.{noClause, clauseWith, clauseAt};
 
 // No clause.
@@ -21,6 +21,19 @@ fn no_clause() -> Clause
         body: 0,
         head: 0,
     }
+}
+
+// Whether one of the rule's naf literals is in the set: then nothing is left of it.
+fn is_removed(t: &[u8], set: &[u8], n: usize) -> bool
+    requires { ⌜ recordSize (now t) ≤ length (now t) ⌝ }
+    requires { ⌜ 4 + 5 * n ≤ length (now set) ⌝ }
+    requires { ⌜ Ascends (now set) n ⌝ }
+    ensures { λ r. ⌜ r ≡ anyKey (now (set .entry)) n (getD (now (t .entry)) 6 0) (now (t .entry)) (7 + 5 * (getD (now (t .entry)) 4 0 + getD (now (t .entry)) 5 0)) ⌝ }
+{
+    let heads = t[4] as usize;
+    let positives = t[5] as usize;
+    let nafs = t[6] as usize;
+    is_any_member(set, n, nafs, t, 7 + 5 * (heads + positives))
 }
 
 // The clause with this body and the rule's head: of a defeasible rule the options that are left, if there are any.

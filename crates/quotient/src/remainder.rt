@@ -4,15 +4,28 @@ use crate::options::count_left;
 use crate::options::write_left;
 use emit::copy::copy;
 use emit::records::write_header;
-use remains::is_removed;
+use litset::member::is_any_member;
 ghost use mathlib.Core.Path.{_≡_};
 ghost use Prim.Native.Nat.{_+_, _*_, _≤_};
 ghost use lib.ListN.{length, getD};
 ghost use Rattle.buffer.specs.Write.{write};
 ghost use Rattle.record.specs.Code.{recordSize};
-ghost use Rattle.litset.specs.Keys.{Ascends};
+ghost use Rattle.litset.specs.Keys.{Ascends, anyKey};
 ghost use Rattle.remains.specs.Left.{leftAt};
 ghost use Rattle.quotient.specs.Writing.{strictBytes, optionBytes, remainderAt};
+
+// Whether one of the rule's naf literals is in the set: then nothing is left of it.
+fn is_removed(t: &[u8], set: &[u8], count: usize) -> bool
+    requires { ⌜ recordSize (now t) ≤ length (now t) ⌝ }
+    requires { ⌜ 4 + 5 * count ≤ length (now set) ⌝ }
+    requires { ⌜ Ascends (now set) count ⌝ }
+    ensures { λ r. ⌜ r ≡ anyKey (now (set .entry)) count (getD (now (t .entry)) 6 0) (now (t .entry)) (7 + 5 * (getD (now (t .entry)) 4 0 + getD (now (t .entry)) 5 0)) ⌝ }
+{
+    let heads = t[4] as usize;
+    let positives = t[5] as usize;
+    let nafs = t[6] as usize;
+    is_any_member(set, count, nafs, t, 7 + 5 * (heads + positives))
+}
 
 // The length of what is left of the rule; 0 where nothing is.
 pub fn measure_remainder(t: &[u8], set: &[u8], count: usize) -> usize

@@ -1,8 +1,8 @@
--- `is_removed` meets its contract: the naf literals stand behind the others.
+-- `rule::is_removed` meets its contract: the naf literals stand behind the others.
 -- Assumes nothing.
 use borrow.Author.Needs.{needs}
-use Rattle.remains.proofs.is_removed.Statement.{statement}
-use Rattle.remains.proofs.is_removed.Tie as tie
+use Rattle.clauses.proofs.rule.is_removed.Statement.{statement}
+use Rattle.clauses.proofs.rule.is_removed.Tie as tie
 
 shared-slice-read-heads : tie.Need-shared-slice-read-heads
 shared-slice-read-heads c = search needs
