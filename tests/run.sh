@@ -3,10 +3,6 @@
 # tests/reliability, the crate, the command, the worked examples. Needs python3, rustc, cargo, a C and a C++ compiler, clingo,
 # target/staticlib/libaspda.a (rt staticlib aspda) and target/bin/filter (rt check filter).
 
-# The operations that the library exports; add an operation when it is exported. Of these: read show
-# translate quotient extend restrict check, and filter for the program target/bin/filter.
-OPS=${OPS:-"read show translate quotient extend restrict check filter"}
-
 set -eu
 cd "$(dirname "$0")/.."
 LIBRARY=${LIBRARY:-target/staticlib}
@@ -26,36 +22,23 @@ fi
 say "self-test of the reference"
 python3 tests/reference/selftest.py
 
-names=$(printf '%s' "$OPS" | tr ' ' ',')
-say "vectors for $names"
-python3 tests/vectors.py "$build/vectors" --ops "$names"
+say "vectors"
+python3 tests/vectors.py "$build/vectors" --ops read,show,translate,quotient,extend,restrict,check,filter
 
 say "building the runner"
-flags=""
-words=""
-for op in $OPS; do
-    flags="$flags --cfg op_$op"
-    if [ "$op" = filter ]; then words="--filter $FILTER"; fi
-done
-# shellcheck disable=SC2086  # the flags are words
-rustc --edition 2021 -O $flags -L "native=$LIBRARY" -o "$build/runner" tests/runner/main.rs
+rustc --edition 2021 -O -L "native=$LIBRARY" -o "$build/runner" tests/runner/main.rs
 
 say "running the vectors"
-# shellcheck disable=SC2086
-"$build/runner" "$build/vectors" $words
-case " $OPS " in *" filter "*)
-    say "the filter on files"
-    for input in tests/filter/*.in; do
-        "$FILTER" <"$input" >"$build/out"
-        cmp "$build/out" "${input%.in}.out"
-    done
-esac
+"$build/runner" "$build/vectors" --filter "$FILTER"
 
-# It calls every export.
-case " $OPS " in *" check "*)
-    say "a second reference, random calls beside it, memory"
-    LIBRARY="$LIBRARY" sh tests/reliability/short.sh "$build/vectors"
-esac
+say "the filter on files"
+for input in tests/filter/*.in; do
+    "$FILTER" <"$input" >"$build/out"
+    cmp "$build/out" "${input%.in}.out"
+done
+
+say "a second reference, random calls beside it, memory"
+LIBRARY="$LIBRARY" sh tests/reliability/short.sh "$build/vectors"
 
 say "recorded answer sets of a solver, the traps, the examples"
 python3 tests/solver/compare.py --translate "$FILTER"

@@ -4,8 +4,21 @@
 
 #include <cinttypes>
 #include <cstdio>
+#include <stdexcept>
 
 namespace calls {
+
+namespace {
+
+using WithSet = std::uint64_t(const std::uint8_t *, std::size_t, const std::uint8_t *, std::size_t, std::uint8_t *,
+                              std::size_t);
+
+std::uint64_t with_set(WithSet *function, const Slices &s)
+{
+    return function(s.program, s.program_length, s.set, s.set_length, s.out, s.room);
+}
+
+} // namespace
 
 std::uint64_t by_library(unsigned operation, const Slices &s, std::uint32_t rule)
 {
@@ -15,15 +28,14 @@ std::uint64_t by_library(unsigned operation, const Slices &s, std::uint32_t rule
     case show_source: return aspda_show_source(s.program, s.program_length, rule);
     case show_plain: return aspda_show_plain(s.program, s.program_length, rule);
     case translate: return aspda_translate(s.program, s.program_length, s.out, s.room);
+    case quotient_source: return with_set(aspda_quotient_source, s);
+    case quotient_plain: return with_set(aspda_quotient_plain, s);
+    case extend: return with_set(aspda_extend, s);
     case restriction: return aspda_restrict(s.set, s.set_length, s.out, s.room);
-    default: break;
+    case check_source: return with_set(aspda_check_source, s);
+    case check_plain: return with_set(aspda_check_plain, s);
+    default: throw std::logic_error("an operation that the library is not asked for");
     }
-    auto with_set = operation == quotient_source  ? aspda_quotient_source
-                    : operation == quotient_plain ? aspda_quotient_plain
-                    : operation == extend         ? aspda_extend
-                    : operation == check_source   ? aspda_check_source
-                                                  : aspda_check_plain;
-    return with_set(s.program, s.program_length, s.set, s.set_length, s.out, s.room);
 }
 
 std::uint64_t by_reference(const Call &call, Bytes &buffer)
@@ -39,7 +51,9 @@ std::uint64_t by_reference(const Call &call, Bytes &buffer)
     case quotient_plain: return reference::quotient(form, call.program, call.set, buffer);
     case extend: return reference::extend(call.program, call.set, buffer);
     case restriction: return reference::restriction(call.set, buffer);
-    default: return reference::check(form, call.program, call.set, buffer);
+    case check_source:
+    case check_plain: return reference::check(form, call.program, call.set, buffer);
+    default: throw std::logic_error("an operation that the reference is not asked for");
     }
 }
 

@@ -1,4 +1,4 @@
-// The eleven exports behind one way to call them, and the reference behind the same.
+// The exports behind one way to call them, and the reference behind the same.
 #pragma once
 
 #include "reference.hpp"
@@ -36,7 +36,7 @@ constexpr std::array<Export, 11> exports{{
     {"check_plain", Form::plain, true, true, false, true},
 }};
 
-inline bool is_check(unsigned operation) { return operation >= check_source; }
+inline bool is_check(unsigned operation) { return operation == check_source || operation == check_plain; }
 
 // A call; what its operation does not take is empty or 0.
 struct Call {
@@ -62,10 +62,12 @@ std::uint64_t by_reference(const Call &call, Bytes &buffer);
 // What stands in a lent buffer before a call.
 Bytes filling(std::size_t length, unsigned salt);
 
+constexpr std::size_t last_refusal = 13;
+
 // How often an operation gave results, each refusal number and each verdict.
 struct Tally {
     std::uint64_t calls = 0, accepted = 0;
-    std::array<std::uint64_t, 14> refusals{};
+    std::array<std::uint64_t, last_refusal + 1> refusals{};
     std::array<std::uint64_t, 4> verdicts{};
 
     void count(unsigned operation, std::uint64_t word);

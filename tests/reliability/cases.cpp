@@ -365,8 +365,10 @@ Bytes Batch::program_for(unsigned operation)
 Call Batch::next()
 {
     Call call;
-    call.operation = static_cast<unsigned>(random.below(calls::exports.size() + 2));
-    if (call.operation >= calls::exports.size()) call.operation -= 2; // the checks twice as often
+    std::size_t drawn = random.below(calls::exports.size() + 2); // the checks twice as often
+    call.operation = drawn < calls::exports.size()    ? static_cast<unsigned>(drawn)
+                     : drawn == calls::exports.size() ? calls::check_source
+                                                      : calls::check_plain;
     const calls::Export &taken = calls::exports[call.operation];
     if (taken.takes_program) call.program = program_for(call.operation);
     if (taken.takes_set) call.set = set_for(call.operation);

@@ -65,6 +65,7 @@ unsigned operation_named(const std::string &name)
 {
     unsigned operation = 0;
     while (operation < not_an_export && name != calls::exports[operation].name) ++operation;
+    if (operation == not_an_export && name != "filter") throw std::runtime_error("no export is named " + name);
     return operation;
 }
 

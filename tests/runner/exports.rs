@@ -1,8 +1,5 @@
 //! The exports of the static library, as its header declares them, behind one way to call them.
 
-// Without all `--cfg op_..` some shapes and lists have no export yet.
-#![allow(dead_code)]
-
 /// What a row hands to its operation; an operation takes what it needs.
 pub struct Inputs<'a> {
     pub program: &'a [u8],
@@ -67,19 +64,12 @@ extern "C" {
     fn aspda_read_plain(p: *const u8, n: usize) -> u64;
     fn aspda_show_source(p: *const u8, n: usize, rule: u32) -> u64;
     fn aspda_show_plain(p: *const u8, n: usize, rule: u32) -> u64;
-    #[cfg(op_translate)]
     fn aspda_translate(p: *const u8, n: usize, out: *mut u8, m: usize) -> u64;
-    #[cfg(op_quotient)]
     fn aspda_quotient_source(p: *const u8, n: usize, s: *const u8, k: usize, out: *mut u8, m: usize) -> u64;
-    #[cfg(op_quotient)]
     fn aspda_quotient_plain(p: *const u8, n: usize, s: *const u8, k: usize, out: *mut u8, m: usize) -> u64;
-    #[cfg(op_extend)]
     fn aspda_extend(p: *const u8, n: usize, s: *const u8, k: usize, out: *mut u8, m: usize) -> u64;
-    #[cfg(op_restrict)]
     fn aspda_restrict(s: *const u8, k: usize, out: *mut u8, m: usize) -> u64;
-    #[cfg(op_check)]
     fn aspda_check_source(p: *const u8, n: usize, s: *const u8, k: usize, out: *mut u8, m: usize) -> u64;
-    #[cfg(op_check)]
     fn aspda_check_plain(p: *const u8, n: usize, s: *const u8, k: usize, out: *mut u8, m: usize) -> u64;
 }
 
@@ -93,55 +83,21 @@ const SOURCE_AND_SET: &[u64] = &[1, 2, 3, 4, 5, 6, 7, 8, 9, 10, 11, 12];
 const PLAIN_AND_SET: &[u64] = &[1, 2, 3, 4, 5, 6, 8, 9, 10, 11, 12];
 const SET_ALONE: &[u64] = &[9, 10, 11, 12];
 
-fn export(name: &'static str, symbol: Symbol, refusals: &'static [u64]) -> Export {
-    Export {
-        name,
-        symbol,
-        refusals,
-    }
-}
-
-/// The exports that were linked.
-pub fn linked() -> Vec<Export> {
+/// The exports.
+#[rustfmt::skip]
+pub const EXPORTS: [Export; 11] = {
     use Symbol::*;
-    Vec::from([
-        export("read_source", Program(aspda_read_source), READ_SOURCE),
-        export("read_plain", Program(aspda_read_plain), READ_PLAIN),
-        export(
-            "show_source",
-            ProgramAndRule(aspda_show_source),
-            SHOW_SOURCE,
-        ),
-        export("show_plain", ProgramAndRule(aspda_show_plain), SHOW_PLAIN),
-        #[cfg(op_translate)]
-        export("translate", ProgramAndOut(aspda_translate), TRANSLATE),
-        #[cfg(op_quotient)]
-        export(
-            "quotient_source",
-            ProgramSetAndOut(aspda_quotient_source),
-            SOURCE_AND_SET,
-        ),
-        #[cfg(op_quotient)]
-        export(
-            "quotient_plain",
-            ProgramSetAndOut(aspda_quotient_plain),
-            PLAIN_AND_SET,
-        ),
-        #[cfg(op_extend)]
-        export("extend", ProgramSetAndOut(aspda_extend), SOURCE_AND_SET),
-        #[cfg(op_restrict)]
-        export("restrict", SetAndOut(aspda_restrict), SET_ALONE),
-        #[cfg(op_check)]
-        export(
-            "check_source",
-            ProgramSetAndOut(aspda_check_source),
-            SOURCE_AND_SET,
-        ),
-        #[cfg(op_check)]
-        export(
-            "check_plain",
-            ProgramSetAndOut(aspda_check_plain),
-            PLAIN_AND_SET,
-        ),
-    ])
-}
+    [
+        Export { name: "read_source", symbol: Program(aspda_read_source), refusals: READ_SOURCE },
+        Export { name: "read_plain", symbol: Program(aspda_read_plain), refusals: READ_PLAIN },
+        Export { name: "show_source", symbol: ProgramAndRule(aspda_show_source), refusals: SHOW_SOURCE },
+        Export { name: "show_plain", symbol: ProgramAndRule(aspda_show_plain), refusals: SHOW_PLAIN },
+        Export { name: "translate", symbol: ProgramAndOut(aspda_translate), refusals: TRANSLATE },
+        Export { name: "quotient_source", symbol: ProgramSetAndOut(aspda_quotient_source), refusals: SOURCE_AND_SET },
+        Export { name: "quotient_plain", symbol: ProgramSetAndOut(aspda_quotient_plain), refusals: PLAIN_AND_SET },
+        Export { name: "extend", symbol: ProgramSetAndOut(aspda_extend), refusals: SOURCE_AND_SET },
+        Export { name: "restrict", symbol: SetAndOut(aspda_restrict), refusals: SET_ALONE },
+        Export { name: "check_source", symbol: ProgramSetAndOut(aspda_check_source), refusals: SOURCE_AND_SET },
+        Export { name: "check_plain", symbol: ProgramSetAndOut(aspda_check_plain), refusals: PLAIN_AND_SET },
+    ]
+};

@@ -7,9 +7,7 @@
 //! the two. Fails on any difference, and if a refusal number that an operation can give is reached
 //! fewer than N times (20 unless given).
 //!
-//! Which operations are linked is chosen when building: `--cfg op_translate`, `op_quotient`,
-//! `op_extend`, `op_restrict`, `op_check`. Read and show are always there. The filter is a program
-//! of its own, run for its rows if `--filter` names it.
+//! The filter is a program of its own, run for its rows if `--filter` names it.
 
 mod exports;
 mod vector_file;
@@ -20,7 +18,7 @@ use std::io::{self, BufReader, Read, Write};
 use std::process::{Command, ExitCode, Stdio};
 use std::thread;
 
-use exports::{Export, Inputs};
+use exports::{Export, Inputs, EXPORTS};
 use vector_file::{Row, Vectors};
 
 const REFUSED: u64 = 1 << 63;
@@ -86,7 +84,6 @@ fn value(words: &mut impl Iterator<Item = String>) -> Result<String, String> {
 }
 
 fn run(options: &Options) -> Result<bool, String> {
-    let linked = exports::linked();
     let mut tallies: BTreeMap<String, Tally> = BTreeMap::new();
     let mut vectors = Vectors::open(source(&options.file)?)?;
     let mut shown = 0;
@@ -94,7 +91,7 @@ fn run(options: &Options) -> Result<bool, String> {
         if options.trace {
             println!("{} {}", row.operation, row.name);
         }
-        let differences = differences(options, &linked, &row)?;
+        let differences = differences(options, &row)?;
         let tally = tallies.entry(row.operation.clone()).or_default();
         count(tally, &row, differences.len());
         for difference in differences {
@@ -104,7 +101,7 @@ fn run(options: &Options) -> Result<bool, String> {
             }
         }
     }
-    Ok(report(options, &linked, &tallies))
+    Ok(report(options, &tallies))
 }
 
 fn source(file: &str) -> Result<Box<dyn Read>, String> {
@@ -115,7 +112,7 @@ fn source(file: &str) -> Result<Box<dyn Read>, String> {
     Ok(Box::new(BufReader::with_capacity(1 << 20, opened)))
 }
 
-fn differences(options: &Options, linked: &[Export], row: &Row) -> Result<Vec<String>, String> {
+fn differences(options: &Options, row: &Row) -> Result<Vec<String>, String> {
     if row.operation == "filter" {
         let program = options
             .filter
@@ -123,10 +120,10 @@ fn differences(options: &Options, linked: &[Export], row: &Row) -> Result<Vec<St
             .ok_or("rows of the filter, but no --filter")?;
         return filter_differences(program, row);
     }
-    let export = linked
+    let export = EXPORTS
         .iter()
         .find(|export| export.name == row.operation)
-        .ok_or_else(|| format!("rows of {}, which is not linked", row.operation))?;
+        .ok_or_else(|| format!("rows of {}, which is not exported", row.operation))?;
     let mut found = export_differences(export, row, 0x00);
     if found.is_empty() {
         found = export_differences(export, row, 0xFF);
@@ -297,9 +294,9 @@ fn refusal_number(row: &Row) -> Option<u64> {
 }
 
 /// A line for each operation; true if all is well.
-fn report(options: &Options, linked: &[Export], tallies: &BTreeMap<String, Tally>) -> bool {
+fn report(options: &Options, tallies: &BTreeMap<String, Tally>) -> bool {
     let mut well = true;
-    let mut demands: Vec<(&str, &[u64])> = linked
+    let mut demands: Vec<(&str, &[u64])> = EXPORTS
         .iter()
         .map(|export| (export.name, export.refusals))
         .collect();

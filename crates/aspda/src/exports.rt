@@ -12,7 +12,7 @@ use record::read::read_source;
 use record::show::find_plain;
 use record::show::find_source;
 use restrict::restrict::restrict_plain;
-use translate::pass::translate_source;
+use translate::translate::translate_source;
 use verdict::proposed::check_plain;
 use verdict::proposed::check_source;
 ghost use mathlib.Core.Path.{_≡_};

@@ -3,14 +3,34 @@
 use crate::Left;
 use crate::masks::mask_literal;
 use emit::options::option_at;
+use emit::options::tag_at;
 use literal::Literal;
-use remains::is_defeated;
+use literal::code::atom_of;
+use literal::code::kind_of;
+use literal::code::tag_of;
+use literal::order::make_key;
+use litset::search::holds;
 ghost use mathlib.Core.Path.{_≡_};
 ghost use Prim.Native.Nat.{_+_, _*_, _≤_};
 ghost use lib.ListN.{length};
-ghost use Rattle.litset.specs.Keys.{Ascends};
+ghost use Rattle.literal.specs.declared.Literal.the-variants.{Defeated};
+ghost use Rattle.litset.specs.Keys.{Ascends, keySet};
+ghost use Rattle.emit.specs.Options.{tagAt, optionAt};
 ghost use Rattle.remains.specs.Left.{leftAt};
 ghost use Rattle.clauses.specs.Rule.{leftOf};
+
+// Whether the defeat mark of the option at a place is in the set.
+fn is_defeated(t: &[u8], at: usize, set: &[u8], n: usize) -> bool
+    requires { ⌜ at + 5 ≤ length (now t) ⌝ }
+    requires { ⌜ 4 + 5 * n ≤ length (now set) ⌝ }
+    requires { ⌜ Ascends (now set) n ⌝ }
+    ensures { λ r. ⌜ r ≡ keySet (now (set .entry)) n (Defeated (tagAt (now (t .entry))) (optionAt (now (t .entry)) at)) ⌝ }
+{
+    let tag = tag_at(t);
+    let option = option_at(t, at);
+    let mark = Literal::Defeated(tag, option);
+    holds(set, n, make_key(kind_of(mark), tag_of(mark), atom_of(mark)))
+}
 
 // The option at a place, where it is left.
 fn mask_option(t: &[u8], at: usize, set: &[u8], n: usize) -> Left

@@ -2,7 +2,7 @@ pub mod Collect
 pub mod Count
 pub mod Derived
 pub mod Gained
-pub mod Kinds
+pub mod Each
 pub mod Marks
 pub mod Members
 pub mod Rule

@@ -2,7 +2,7 @@
 
 use emit::refusal::write_refusal;
 use record::Written;
-use translate::pass::translate_source;
+use translate::translate::translate_source;
 ghost use Prim.Native.Nat.{_≤_, _<_};
 ghost use lib.ListN.{length};
 ghost use Rattle.literal.specs.Limits.{source};

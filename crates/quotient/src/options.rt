@@ -1,16 +1,31 @@
 // The options that a set leaves of a defeasible rule, whose record stands at the start of a slice.
 
 use emit::options::option_at;
+use emit::options::tag_at;
 use literal::Literal;
 use literal::code::encode;
-use remains::is_defeated;
+use litset::member::is_member;
 ghost use mathlib.Core.Path.{_≡_};
 ghost use Prim.Native.Nat.{_+_, _*_, _≤_, _<_};
 ghost use lib.ListN.{length};
 ghost use Rattle.buffer.specs.Write.{write};
+ghost use Rattle.literal.specs.declared.Literal.the-variants.{Defeated};
 ghost use Rattle.record.specs.Layout.{encodedLiterals};
-ghost use Rattle.litset.specs.Keys.{Ascends};
+ghost use Rattle.litset.specs.Keys.{Ascends, keySet};
+ghost use Rattle.emit.specs.Options.{tagAt, optionAt};
 ghost use Rattle.remains.specs.Left.{leftAt};
+
+// Whether the defeat mark of the option at a place is in the set.
+fn is_defeated(t: &[u8], at: usize, set: &[u8], count: usize) -> bool
+    requires { ⌜ at + 5 ≤ length (now t) ⌝ }
+    requires { ⌜ 4 + 5 * count ≤ length (now set) ⌝ }
+    requires { ⌜ Ascends (now set) count ⌝ }
+    ensures { λ r. ⌜ r ≡ keySet (now (set .entry)) count (Defeated (tagAt (now (t .entry))) (optionAt (now (t .entry)) at)) ⌝ }
+{
+    let tag = tag_at(t);
+    let option = option_at(t, at);
+    is_member(set, count, Literal::Defeated(tag, option))
+}
 
 // 1 where the option at a place is left, and 0 where it is defeated.
 fn count_option(t: &[u8], at: usize, set: &[u8], count: usize) -> usize

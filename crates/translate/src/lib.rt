@@ -1,3 +1,3 @@
 // Translating a source program into a plain one.
 
-pub mod pass;
+pub mod translate;

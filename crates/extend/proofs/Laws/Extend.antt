@@ -10,6 +10,7 @@ use lib.Dec.{T}
 use Rattle.literal.specs.declared.Limits.{Limits}
 use Rattle.literal.specs.declared.Literal.{Literal}
 use Rattle.literal.specs.Literal.{takes}
+use Rattle.literal.specs.Order.{key}
 use Rattle.semantics.specs.Set.{all, sameLiteral, setOf}
 use Rattle.semantics.specs.Rule.{Program}
 use Rattle.semantics.specs.Extension.{extension, sourceKind}
@@ -22,9 +23,9 @@ use Rattle.marks.specs.Marks.{marksFrom}
 use Rattle.marks.proofs.Laws.Members.{marks-added}
 use Rattle.extend.specs.Extend.{sorted, extensionList}
 use Rattle.extend.specs.Extending.{Extendable}
-use Rattle.extend.proofs.Laws.Sorted.{Narrow}
+use Rattle.extend.proofs.Laws.Sorted.{Narrow, each-sorted}
 use Rattle.extend.proofs.Laws.Narrow.{marks-fit, literals-fit}
-use Rattle.extend.proofs.Laws.Inserted.{in-sorted, ascending-sorted, not-below-sorted, ascending-append}
+use Rattle.extend.proofs.Laws.Inserted.{in-sorted, ascending-sorted, ascending-append}
 use Rattle.extend.proofs.Laws.Places.{firstMark, not-below-marks, below-literals}
 
 -- a literal is in the list exactly if it is in the extension
@@ -45,7 +46,7 @@ pub extension-ascending : (p : Program) (ls : List Literal) → T (all sourceKin
 unfolding extensionList
 extension-ascending p ls s f a =
     let ms = marksFrom 1 p (setOf ls) in
-    ascending-append firstMark ls (sorted ms) (below-literals ls s f) (not-below-sorted firstMark ms (not-below-marks (setOf ls) 1 p)) a (ascending-sorted ms)
+    ascending-append firstMark ls (sorted ms) (below-literals ls s f) (each-sorted (λ l. firstMark ≤ key l) ms (not-below-marks (setOf ls) 1 p)) a (ascending-sorted ms)
 
 -- and for an ascending list of literals that a form without marks takes
 pub extension-ascending-form : (F : Limits) → Extendable F → F .kinds ≤ 3 → (p : Program) (ls : List Literal) → T (all (takes F) ls) → T (ascending ls) → T (ascending (extensionList p ls))

@@ -59,11 +59,7 @@ pub record StepRule (F : Limits) (n : ℕ) (t : List ℕ) (size : ℕ) : Type 0 
   pub measured : lengthAt t ≡ translatedLength the-rule
   pub bound : lengthAt t ≤ 14 * size
 
--- the rule of an entry
-rule-eq : {r q : Rule} {m n : ℕ} → rule r m ≡ rule q n → r ≡ q
-rule-eq e = cc
-
--- and its size
+-- the size of an entry
 size-eq : {r q : Rule} {m n : ℕ} → rule r m ≡ rule q n → m ≡ n
 size-eq e = cc
 

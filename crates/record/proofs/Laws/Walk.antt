@@ -1,10 +1,10 @@
 -- Walking from record to record by their counts. Assumes nothing.
--- In order: one step; a program's records; where rule n lies.
+-- In order: a record passed; one step; a program's records; where rule n lies.
 use Prim.Native.Nat.{ℕ, zero, suc, _+_, _-_, _≤_, _<_}
 use native.Mathlib.Omega.{arith}
 use mathlib.Core.Path.{_≡_, refl, sym, _∙_, ap, subst}
 use mathlib.Core.List.{List, [], _∷_, _++_, append-assoc}
-use lib.ListN.{length, drop, length-append, length-map, length-drop}
+use lib.ListN.{length, take, drop, length-append, length-map, length-drop}
 use lib.Seq.{drop-drop, drop-at}
 use Rattle.literal.specs.declared.Literal.the-variants.{Signed}
 use Rattle.semantics.specs.Rule.{Rule, strict, defeasible, Program}
@@ -13,9 +13,21 @@ use Rattle.record.specs.Layout.{ruleRecord, encodedRule, encodedRules}
 use Rattle.record.specs.Show.{extentFrom}
 use Rattle.record.specs.Code.{recordSize, walked, Walks}
 use Rattle.record.proofs.Laws.Layout.{length-encoded-rule}
+use Rattle.record.proofs.Laws.Literals.{part-to-end}
 
 pub size-large : (t : List ℕ) → 7 ≤ recordSize t
 size-large t = omega arith
+
+-- the record at `at` is passed: its size, as the rest of the slice tells it, and where it ends
+pub record Passed (s : List ℕ) (at size : ℕ) : Type 0 where
+  pub same : size ≡ recordSize (drop at s)
+  pub large : 7 ≤ size
+  pub fits : at + size ≤ length s
+
+pub passed : (s : List ℕ) (at size : ℕ) → at ≤ length s → recordSize (drop at s) ≤ length (drop at s) → size ≡ recordSize (take (length s - at) (drop at s)) → Passed s at size
+passed s at size within whole e =
+    let same = e ∙ ap recordSize (part-to-end s at) in
+    record { same = same; large = omega (arith, same, size-large (drop at s)); fits = omega (arith, same, whole, length-drop at s) }
 
 module _ (s : List ℕ) (at : ℕ) where
   -- a step to the next record

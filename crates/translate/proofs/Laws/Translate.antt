@@ -17,14 +17,14 @@ use Rattle.record.specs.declared.Refusal.{Refusal}
 use Rattle.record.specs.declared.Written.{Written}
 use Rattle.record.specs.declared.Written.the-variants.{Length, Refused}
 use Rattle.record.specs.Refusal.{refusal}
-use Rattle.record.specs.Result.{Result, accepted, refused, andThen, Outcome, delivered}
+use Rattle.record.specs.Result.{Result, accepted, refused, andThen}
 use Rattle.record.specs.Layout.{encodedProgram}
 use Rattle.record.specs.Reading.{parsed}
 use Rattle.record.proofs.Laws.Layout.{length-encoded-program}
-use Rattle.record.proofs.Laws.Delivered.{delivered-fits, meets-refused, meets-short, meets-written}
+use Rattle.record.proofs.Laws.Delivered.{meets-refused, meets-short, meets-written}
 use Rattle.translate.specs.Translate.{translatedBytes, translated}
 use Rattle.measure.specs.Measure.{measured, Writable}
-use Rattle.translate.specs.Pass.{Translatable}
+use Rattle.rewrite.specs.Pass.{Translatable}
 use Rattle.record.specs.Meets.{Meets}
 use Rattle.measure.proofs.Laws.Measure.{measured-length, measured-refused}
 
@@ -42,13 +42,6 @@ module _ (F : Limits) (s out : List ℕ) where
   bytes-accepted : (p : Program) → parsed F s ≡ accepted p → translatedBytes F s ≡ accepted (encodedProgram (translation p))
   unfolding translatedBytes andThen
   bytes-accepted p e = ap (λ (q : Result Program). andThen q (λ p. accepted (encodedProgram (translation p)))) e
-
-  -- the translation, where there is room
-  pub translated-written : (p : Program) → parsed F s ≡ accepted p → translationLength p ≤ length out → translated F s out .buffer ≡ write out 0 (encodedProgram (translation p))
-  unfolding translated
-  translated-written p e h =
-      ap (λ (q : Result (List ℕ)). delivered q out .buffer) (bytes-accepted p e)
-      ∙ ap (λ (o : Outcome). o .buffer) (delivered-fits (encodedProgram (translation p)) out (omega (arith, length-translated p)))
 
   -- a refusal that is measured is the outcome
   pub measured-refusal : (r : Written) (x : Refusal) → r ≡ measured F s → r ≡ Refused x → Meets (translated F s out) r out
@@ -70,12 +63,12 @@ module _ (F : Limits) (s out : List ℕ) where
       translatable = let w = measured-length F s n m in record { program = w .0; holds = w .1; fits = omega (arith, w .2) }
 
       -- and what is measured is the answer
-      pub measured-written : (e : List ℕ) → e ≡ translated F s out .buffer → Meets (translated F s out) (Length n) e
-      unfolding translated
+      pub measured-written : (e : List ℕ) → ((w : Translatable F s out) → e ≡ write out 0 (encodedProgram (translation (w .program)))) → Meets (translated F s out) (Length n) e
+      unfolding translated translatable
       measured-written e done =
           let w = measured-length F s n m in
-          let fits : translationLength (w .0) ≤ length out = omega (arith, w .2) in
-          meets-written (translatedBytes F s) out (encodedProgram (translation (w .0))) (bytes-accepted (w .0) (w .1)) (omega (arith, length-translated (w .0))) n e (omega (arith, w .2, length-translated (w .0))) (done ∙ translated-written (w .0) (w .1) fits)
+          meets-written (translatedBytes F s) out (encodedProgram (translation (w .0))) (bytes-accepted (w .0) (w .1)) (omega (arith, w .2, length-translated (w .0))) n e
+          (omega (arith, w .2, length-translated (w .0))) (done translatable)
 
 -- the same limits have the same outcome
 pub meets-same : (F G : Limits) (s out : List ℕ) {r : Written} {e : List ℕ} → F ≡ G → Meets (translated F s out) r e → Meets (translated G s out) r e

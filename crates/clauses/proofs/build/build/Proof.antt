@@ -5,13 +5,13 @@
 use Prim.Native.Nat.{_+_, _*_, _-_, _≤_, _<_}
 use native.Mathlib.Omega.{arith}
 use mathlib.Core.Path.{_≡_, refl, sym, _∙_, ap}
-use lib.ListN.{length, drop, length-drop, length-set}
+use lib.ListN.{length, drop, length-set}
 use borrow.Author.Needs.{needs}
 use denote.Ref.{now}
 use Rattle.buffer.specs.Bytes.{Bytes}
 use Rattle.record.specs.Code.{recordSize}
 use Rattle.record.proofs.Laws.Literals.{part-to-end}
-use Rattle.record.proofs.Laws.Walk.{size-large}
+use Rattle.record.proofs.Laws.Walk.{size-large, Passed, passed}
 use Rattle.clauses.specs.Rule.{clauseAt}
 use Rattle.clauses.proofs.Laws.Pass.{Pass, pass-start, pass-next, built-whole, built-broken, asked-long, asked-ascends, asked-open, asked-fits, asked-room, asked-count}
 use Rattle.clauses.proofs.build.build.Statement.{statement}
@@ -125,26 +125,20 @@ record-size-requires c κs =
     let at-loop = c .before .before .before .before .before .before in
     omega (arith, fits (c .before .before .before), ap length (part-to-end (now (at-loop .before .before .before .before .before .args .s)) (at-loop .loop .at)), size-large (drop (at-loop .loop .at) (now (at-loop .before .before .before .before .before .args .s))))
 
--- the size of the record, which ends where the slice does or before
-size : (c : tie.After-record-size Inv-loop μ-loop) → c .record-size .result ≡ recordSize (drop (c .before .before .before .before .before .before .before .loop .at) (now (c .before .before .before .before .before .before .before .before .before .before .before .before .args .s)))
-size c = c .record-size .ensures ∙ ap recordSize (part-to-end (now (c .before .before .before .before .before .before .before .before .before .before .before .before .args .s)) (c .before .before .before .before .before .before .before .loop .at))
-
-ends : (c : tie.After-record-size Inv-loop μ-loop) → (c .before .before .before .before .before .before .before .loop .at + c .record-size .result ≤ length (now (c .before .before .before .before .before .before .before .before .before .before .before .before .args .s))) × (7 ≤ c .record-size .result)
-ends c =
+-- the record is passed
+beyond : (c : tie.After-record-size Inv-loop μ-loop) → Passed (now (c .before .before .before .before .before .before .before .before .before .before .before .before .args .s)) (c .before .before .before .before .before .before .before .loop .at) (c .record-size .result)
+beyond c =
     let at-loop = c .before .before .before .before .before .before .before in
-    let s = now (at-loop .before .before .before .before .before .args .s) in (
-      omega (arith, fits (c .before .before .before .before), size c, length-drop (at-loop .loop .at) s, inside at-loop),
-      omega (arith, size c, size-large (drop (at-loop .loop .at) s)),
-    )
+    passed (now (at-loop .before .before .before .before .before .args .s)) (at-loop .loop .at) _ (omega (arith, inside at-loop)) (fits (c .before .before .before .before)) (c .record-size .ensures)
 
 add-at : tie.Need-add-at Inv-loop μ-loop
-add-at c = omega (arith, ends c .0)
+add-at c = omega (arith, beyond c .fits)
 
 add-number : tie.Need-add-number Inv-loop μ-loop
 add-number c = omega (arith, few (c .before .before .before), inside (c .before .before .before .before .before .before .before), c .before .before .before .before .before .before .before .loop .inv .0)
 
 loop-less : tie.Need-loop-less Inv-loop μ-loop
-loop-less c = omega (arith, ends c .0, ends c .1)
+loop-less c = omega (arith, beyond c .large, beyond c .fits)
 
 loop-again : tie.Need-loop-again Inv-loop μ-loop
 loop-again c =
@@ -154,12 +148,12 @@ loop-again c =
     let clause = c .before .before .before .clause-of in
     let one = few (c .before .before .before) in
     let space = room (c .before .before) in (
-      omega (arith, l .inv .0, ends c .1),
+      omega (arith, l .inv .0, beyond c .large),
       omega (arith, l .inv .1),
       length-set (l .bodies) (l .count) (clause .result .body) ∙ l .inv .2,
       length-set (l .heads) (l .count) (clause .result .head) ∙ l .inv .3,
       pass-next (now (a .s)) (now (a .set)) (a .n) (source at-loop) (set-bytes at-loop) (l .bodies) (l .heads) (l .at) (l .number) (l .count) (l .inv .4)
-          (c .before .before .before .before .before .if1 .taken) (clause .result) (found (c .before .before .before)) (sym (c .before .before .is-broken .ensures) ∙ c .before .if2 .left) (space .0) (space .1) (c .record-size .result) (size c),
+          (c .before .before .before .before .before .if1 .taken) (clause .result) (found (c .before .before .before)) (sym (c .before .before .is-broken .ensures) ∙ c .before .if2 .left) (space .0) (space .1) (c .record-size .result) (beyond c .same),
     )
 
 same-length-3 : tie.Need-same-length-3 Inv-loop μ-loop

@@ -15,7 +15,7 @@ use Rattle.record.proofs.Laws.Literals.{part-to-end}
 use Rattle.record.proofs.Laws.Places.{step-place}
 use Rattle.measure.specs.Measure.{measured}
 use Rattle.expand.specs.Writing.{lengthAt}
-use Rattle.measure.proofs.Laws.Measure.{step-starts, left, measured-long, measured-left, left-rule, left-end, left-refused}
+use Rattle.measure.proofs.Laws.Measure.{StepRule, step-starts, left, measured-long, measured-left, left-rule, left-end, left-refused}
 use Rattle.measure.proofs.measure.measure_source.Statement.{statement}
 use Rattle.measure.proofs.measure.measure_source.Tie as tie
 
@@ -24,6 +24,21 @@ Inv-loop lim s at₀ held₀ total₀ at held total = (at ≤ length s) × (7 * 
 
 abbrev μ-loop : tie.MeasureT-loop
 μ-loop lim s at₀ held₀ total₀ at held total = length s - at
+
+-- what reading answered of the part from `at` on
+step-now : (c : tie.After-read-record Inv-loop μ-loop) → stepOf (recordAt (c .before .before .before .before .before .before .args .lim) (c .before .before .loop .held) (drop (c .before .before .loop .at) (now (c .before .before .before .before .before .before .args .s)))) ≡ c .read-record .result
+step-now c =
+    let a = c .before .before .before .before .before .before .args in
+    let l = c .before .before .loop in
+    ap (λ t. stepOf (recordAt (a .lim) (l .held) t)) (sym (part-to-end (now (a .s)) (l .at))) ∙ sym (c .read-record .ensures)
+
+-- the rule's record that starts it, where that is a rule
+rule-now : (c : tie.After-step Inv-loop μ-loop) → StepRule (c .before .before .before .before .before .before .before .before .args .lim) (c .before .before .before .before .loop .held) (drop (c .before .before .before .before .loop .at) (now (c .before .before .before .before .before .before .before .before .args .s))) (c .step .given .0 .0)
+rule-now c =
+    let a = c .before .before .before .before .before .before .before .before .args in
+    let l = c .before .before .before .before .loop in
+    step-starts (a .lim) (l .held) (drop (l .at) (now (a .s))) (c .step .given .0 .0)
+    (bytes-drop (l .at) (now (a .s)) (λ i. c .before .before .before .before .before .before .before .shared-slice-known .given i .fits)) (step-now (c .before .before) ∙ c .step .given .1)
 
 returns : tie.Need-returns Inv-loop μ-loop
 returns c = let a = c .before .before .before .args in sym (measured-long (a .lim) (now (a .s)) (c .if1 .taken))
@@ -50,29 +65,22 @@ measure-rule-requires : tie.Need-measure-rule-requires Inv-loop μ-loop
 measure-rule-requires c κs =
     let a = c .before .before .before .before .before .before .before .before .before .args in
     let l = c .before .before .before .before .before .loop in
-    let s = now (a .s) in
-    let e = ap (λ t. stepOf (recordAt (a .lim) (l .held) t)) (sym (part-to-end s (l .at))) ∙ sym (c .before .before .before .read-record .ensures) ∙ c .before .step .given .1 in
-    let w = step-starts (a .lim) (l .held) (drop (l .at) s) _ (bytes-drop (l .at) s (λ i. c .before .before .before .before .before .before .before .before .shared-slice-known .given i .fits)) e in
-    omega (arith, w .fits, w .large, length-drop (l .at) s, ap length (part-to-end s (l .at)))
+    let w = rule-now (c .before) in
+    omega (arith, w .fits, w .large, length-drop (l .at) (now (a .s)), ap length (part-to-end (now (a .s)) (l .at)))
 
 add-total : tie.Need-add-total Inv-loop μ-loop
 add-total c =
-    let a = c .before .before .before .before .before .before .before .before .before .before .args in
+    let start = c .before .before .before .before .before .before .before .before .before .before in
     let l = c .before .before .before .before .before .before .loop in
-    let s = now (a .s) in
-    let e = ap (λ t. stepOf (recordAt (a .lim) (l .held) t)) (sym (part-to-end s (l .at))) ∙ sym (c .before .before .before .before .read-record .ensures) ∙ c .before .before .step .given .1 in
-    let w = step-starts (a .lim) (l .held) (drop (l .at) s) _ (bytes-drop (l .at) s (λ i. c .before .before .before .before .before .before .before .before .before .shared-slice-known .given i .fits)) e in
-    let m = c .measure-rule .ensures ∙ ap lengthAt (part-to-end s (l .at)) in
-    omega (arith, w .fits, w .bound, m, length-drop (l .at) s, c .before .before .before .before .before .before .before .before .before .before .pre .short)
+    let s = now (start .args .s) in
+    let w = rule-now (c .before .before) in
+    omega (arith, w .fits, w .bound, c .measure-rule .ensures ∙ ap lengthAt (part-to-end s (l .at)), length-drop (l .at) s, start .pre .short)
 
 add-at : tie.Need-add-at Inv-loop μ-loop
 add-at c =
     let a = c .before .before .before .before .before .before .before .before .before .before .args in
     let l = c .before .before .before .before .before .before .loop in
-    let s = now (a .s) in
-    let e = ap (λ t. stepOf (recordAt (a .lim) (l .held) t)) (sym (part-to-end s (l .at))) ∙ sym (c .before .before .before .before .read-record .ensures) ∙ c .before .before .step .given .1 in
-    let w = step-starts (a .lim) (l .held) (drop (l .at) s) _ (bytes-drop (l .at) s (λ i. c .before .before .before .before .before .before .before .before .before .shared-slice-known .given i .fits)) e in
-    omega (arith, w .fits, w .large, length-drop (l .at) s, ap length (part-to-end s (l .at)))
+    omega (arith, rule-now (c .before .before) .fits, length-drop (l .at) (now (a .s)))
 
 add-held : tie.Need-add-held Inv-loop μ-loop
 add-held c = search needs
@@ -81,18 +89,15 @@ loop-less : tie.Need-loop-less Inv-loop μ-loop
 loop-less c =
     let a = c .before .before .before .before .before .before .before .before .before .before .args in
     let l = c .before .before .before .before .before .before .loop in
-    let s = now (a .s) in
-    let e = ap (λ t. stepOf (recordAt (a .lim) (l .held) t)) (sym (part-to-end s (l .at))) ∙ sym (c .before .before .before .before .read-record .ensures) ∙ c .before .before .step .given .1 in
-    let w = step-starts (a .lim) (l .held) (drop (l .at) s) _ (bytes-drop (l .at) s (λ i. c .before .before .before .before .before .before .before .before .before .shared-slice-known .given i .fits)) e in
-    omega (arith, w .fits, w .large, length-drop (l .at) s, ap length (part-to-end s (l .at)))
+    let w = rule-now (c .before .before) in
+    omega (arith, w .fits, w .large, length-drop (l .at) (now (a .s)))
 
 loop-again : tie.Need-loop-again Inv-loop μ-loop
 loop-again c =
     let a = c .before .before .before .before .before .before .before .before .before .before .args in
     let l = c .before .before .before .before .before .before .loop in
     let s = now (a .s) in
-    let e = ap (λ t. stepOf (recordAt (a .lim) (l .held) t)) (sym (part-to-end s (l .at))) ∙ sym (c .before .before .before .before .read-record .ensures) ∙ c .before .before .step .given .1 in
-    let w = step-starts (a .lim) (l .held) (drop (l .at) s) _ (bytes-drop (l .at) s (λ i. c .before .before .before .before .before .before .before .before .before .shared-slice-known .given i .fits)) e in
+    let w = rule-now (c .before .before) in
     let m = c .measure-rule .ensures ∙ ap lengthAt (part-to-end s (l .at)) in (
       omega (arith, w .fits, length-drop (l .at) s),
       omega (arith, w .large),
@@ -108,8 +113,7 @@ returns-2 : tie.Need-returns-2 Inv-loop μ-loop
 returns-2 c =
     let a = c .before .before .before .before .before .before .before .before .args in
     let l = c .before .before .before .before .loop in
-    let e = ap (λ t. stepOf (recordAt (a .lim) (l .held) t)) (sym (part-to-end (now (a .s)) (l .at))) ∙ sym (c .before .before .read-record .ensures) ∙ c .enum-told .given .1 in
-    sym (l .inv .4 ∙ left-end (a .lim) (now (a .s)) (l .at) (l .held) (l .total) (omega arith) e)
+    sym (l .inv .4 ∙ left-end (a .lim) (now (a .s)) (l .at) (l .held) (l .total) (omega arith) (step-now (c .before .before) ∙ c .enum-told .given .1))
 
 enum-known-step-2 : tie.Need-enum-known-step-2 Inv-loop μ-loop
 enum-known-step-2 c = search needs
@@ -118,7 +122,7 @@ add-t19 : tie.Need-add-t19 Inv-loop μ-loop
 add-t19 c =
     let a = c .before .before .before .before .before .before .before .before .before .before .args in
     let l = c .before .before .before .before .before .before .loop in
-    let e = ap (λ t. stepOf (recordAt (a .lim) (l .held) t)) (sym (part-to-end (now (a .s)) (l .at))) ∙ sym (c .before .before .before .before .read-record .ensures) ∙ c .before .before .step2 .given .1 in
+    let e = step-now (c .before .before .before .before) ∙ c .before .before .step2 .given .1 in
     omega (arith, step-place (a .lim) (l .held) (drop (l .at) (now (a .s))) _ e, length-drop (l .at) (now (a .s)))
 
 returns-3 : tie.Need-returns-3 Inv-loop μ-loop
@@ -126,7 +130,7 @@ unfolding shifted
 returns-3 c =
     let a = c .before .before .before .before .before .before .before .before .before .before .args in
     let l = c .before .before .before .before .before .before .loop in
-    let e = ap (λ t. stepOf (recordAt (a .lim) (l .held) t)) (sym (part-to-end (now (a .s)) (l .at))) ∙ sym (c .before .before .before .before .read-record .ensures) ∙ c .before .before .step2 .given .1 in
+    let e = step-now (c .before .before .before .before) ∙ c .before .before .step2 .given .1 in
     sym (l .inv .4 ∙ left-refused (a .lim) (now (a .s)) (l .at) (l .held) (l .total) (omega arith) _ e)
 
 pub measure-source-spec : {M : Type 1} → statement M

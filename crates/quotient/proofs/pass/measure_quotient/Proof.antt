@@ -1,13 +1,15 @@
 -- `pass::measure_quotient` meets its contract. Invariant: of each program that the slice holds, what is left of the rules from `at` on
 -- is still to be added to the total, which is within what was passed. Measure: the bytes left.
 -- Assumes nothing.
-use Prim.Native.Nat.{_+_, _-_, _≤_}
+use Prim.Native.Nat.{ℕ, _+_, _-_, _≤_}
 use native.Mathlib.Omega.{arith}
-use mathlib.Core.Path.{_∙_, sym, ap, subst}
-use lib.ListN.{length, drop, length-drop}
+use mathlib.Core.Path.{_≡_, _∙_, sym, ap, subst}
+use mathlib.Core.List.{List}
+use lib.ListN.{length, getD, drop, length-drop}
 use denote.Ref.{now}
 use Rattle.record.specs.Code.{recordSize}
 use Rattle.record.proofs.Laws.Literals.{part-to-end}
+use Rattle.record.proofs.Laws.Walk.{Passed, passed}
 use Rattle.quotient.specs.Writing.{remainderAt}
 use Rattle.quotient.proofs.Laws.Pass.{remainder-short, Measuring, measuring-start, measuring-open, measuring-more, measuring-next, measuring-end}
 use borrow.Author.Needs.{needs}
@@ -23,90 +25,83 @@ abbrev μ-loop : tie.MeasureT-loop
 loop-holds : tie.Need-loop-holds Inv-loop μ-loop
 loop-holds c = (search needs, measuring-start (now (c .before .before .args .s)) (now (c .before .before .args .set)) (c .before .before .args .count))
 
+-- the program's bytes, and the set's
+abbrev source : tie.At-loop Inv-loop μ-loop → List ℕ
+source c = now (c .before .before .before .args .s)
+
+abbrev members : tie.At-loop Inv-loop μ-loop → List ℕ
+members c = now (c .before .before .before .args .set)
+
+-- a record stands at `at`, the end's at least
+opens : (c : tie.At-loop Inv-loop μ-loop) → c .loop .at + 4 ≤ length (source c)
+opens c =
+    let l = c .loop in
+    let w = c .before .before .before .pre .0 in
+    measuring-open (source c) (members c) (c .before .before .before .args .count) (w .program) (w .bytes) (l .at) (l .total) (l .inv .1)
+
+-- a rule's record lies in the slice
+fits : (c : tie.At-loop Inv-loop μ-loop) → (getD (source c) (c .loop .at) 0 ≡ 0x45 → ⊥) → recordSize (drop (c .loop .at) (source c)) ≤ length (drop (c .loop .at) (source c))
+fits c more =
+    let l = c .loop in
+    let w = c .before .before .before .pre .0 in
+    measuring-more (source c) (members c) (c .before .before .before .args .count) (w .program) (w .bytes) (l .at) (l .total) (l .inv .1) more
+
 shared-slice-read-if1 : tie.Need-shared-slice-read-if1 Inv-loop μ-loop
-shared-slice-read-if1 c =
-    let a = c .before .before .before .before .args in
-    let l = c .before .loop in
-    let w = c .before .before .before .before .pre .0 in
-    omega (arith, measuring-open (now (a .s)) (now (a .set)) (a .count) (w .program) (w .bytes) (l .at) (l .total) (l .inv .1))
+shared-slice-read-if1 c = omega (arith, opens (c .before))
 
 sub-part : tie.Need-sub-part Inv-loop μ-loop
-sub-part c =
-    let a = c .before .before .before .before .before .args in
-    let l = c .before .before .loop in
-    let w = c .before .before .before .before .before .pre .0 in
-    omega (arith, measuring-open (now (a .s)) (now (a .set)) (a .count) (w .program) (w .bytes) (l .at) (l .total) (l .inv .1))
+sub-part c = omega (arith, opens (c .before .before))
 
 part-part-start : tie.Need-part-part-start Inv-loop μ-loop
-part-part-start c =
-    let a = c .before .before .before .before .before .args in
-    let l = c .before .before .loop in
-    let w = c .before .before .before .before .before .pre .0 in
-    omega (arith, measuring-open (now (a .s)) (now (a .set)) (a .count) (w .program) (w .bytes) (l .at) (l .total) (l .inv .1))
+part-part-start c = omega (arith, opens (c .before .before))
 
 part-part-end : tie.Need-part-part-end Inv-loop μ-loop
-part-part-end c =
-    let a = c .before .before .before .before .before .args in
-    let l = c .before .before .loop in
-    let w = c .before .before .before .before .before .pre .0 in
-    omega (arith, measuring-open (now (a .s)) (now (a .set)) (a .count) (w .program) (w .bytes) (l .at) (l .total) (l .inv .1))
+part-part-end c = omega (arith, opens (c .before .before))
 
 measure-remainder-requires : tie.Need-measure-remainder-requires Inv-loop μ-loop
 measure-remainder-requires c κs =
-    let a = c .before .before .before .before .before .before .args in
-    let l = c .before .before .before .loop in
-    let w = c .before .before .before .before .before .before .pre .0 in
-    let same = part-to-end (now (a .s)) (l .at) in
-    let fits = measuring-more (now (a .s)) (now (a .set)) (a .count) (w .program) (w .bytes) (l .at) (l .total) (l .inv .1) (c .before .if1 .taken) in
-    (subst (λ x. recordSize x ≤ length x) (sym same) fits, (search needs, c .before .before .before .before .before .before .pre .1 .1))
+    let at-loop = c .before .before .before in
+    let whole = fits at-loop (c .before .if1 .taken) in
+    (subst (λ x. recordSize x ≤ length x) (sym (part-to-end (source at-loop) (at-loop .loop .at))) whole, (search needs, at-loop .before .before .before .pre .1 .1))
 
 add-total : tie.Need-add-total Inv-loop μ-loop
 add-total c =
-    let a = c .before .before .before .before .before .before .before .args in
-    let l = c .before .before .before .before .loop in
-    let w = c .before .before .before .before .before .before .before .pre .0 in
-    let same = part-to-end (now (a .s)) (l .at) in
-    let fits = measuring-more (now (a .s)) (now (a .set)) (a .count) (w .program) (w .bytes) (l .at) (l .total) (l .inv .1) (c .before .before .if1 .taken) in
-    omega (arith, l .inv .0, c .measure-remainder .ensures ∙ ap (λ x. length (remainderAt x (now (a .set)) (a .count))) same, remainder-short (drop (l .at) (now (a .s))) (now (a .set)) (a .count) fits, fits, length-drop (l .at) (now (a .s)), measuring-open (now (a .s)) (now (a .set)) (a .count) (w .program) (w .bytes) (l .at) (l .total) (l .inv .1))
+    let at-loop = c .before .before .before .before in
+    let a = at-loop .before .before .before .args in
+    let l = at-loop .loop in
+    let s = source at-loop in
+    let whole = fits at-loop (c .before .before .if1 .taken) in
+    let long = c .measure-remainder .ensures ∙ ap (λ x. length (remainderAt x (now (a .set)) (a .count))) (part-to-end s (l .at)) in
+    omega (arith, l .inv .0, long, remainder-short (drop (l .at) s) (now (a .set)) (a .count) whole, whole, length-drop (l .at) s, opens at-loop)
 
 record-size-requires : tie.Need-record-size-requires Inv-loop μ-loop
 record-size-requires c κs =
-    let a = c .before .before .before .before .before .before .before .args in
-    let l = c .before .before .before .before .loop in
-    let w = c .before .before .before .before .before .before .before .pre .0 in
-    let same = part-to-end (now (a .s)) (l .at) in
-    let fits = measuring-more (now (a .s)) (now (a .set)) (a .count) (w .program) (w .bytes) (l .at) (l .total) (l .inv .1) (c .before .before .if1 .taken) in
-    omega (arith, fits, ap length same)
+    let at-loop = c .before .before .before .before in
+    omega (arith, fits at-loop (c .before .before .if1 .taken), ap length (part-to-end (source at-loop) (at-loop .loop .at)))
+
+-- and is passed
+beyond : (c : tie.After-record-size Inv-loop μ-loop) → Passed (source (c .before .before .before .before .before)) (c .before .before .before .before .before .loop .at) (c .record-size .result)
+beyond c =
+    let at-loop = c .before .before .before .before .before in
+    passed (source at-loop) (at-loop .loop .at) _ (omega (arith, opens at-loop)) (fits at-loop (c .before .before .before .if1 .taken)) (c .record-size .ensures)
 
 add-at : tie.Need-add-at Inv-loop μ-loop
-add-at c =
-    let a = c .before .before .before .before .before .before .before .before .args in
-    let l = c .before .before .before .before .before .loop in
-    let w = c .before .before .before .before .before .before .before .before .pre .0 in
-    let same = part-to-end (now (a .s)) (l .at) in
-    let fits = measuring-more (now (a .s)) (now (a .set)) (a .count) (w .program) (w .bytes) (l .at) (l .total) (l .inv .1) (c .before .before .before .if1 .taken) in
-    omega (arith, fits, c .record-size .ensures ∙ ap recordSize same, length-drop (l .at) (now (a .s)), measuring-open (now (a .s)) (now (a .set)) (a .count) (w .program) (w .bytes) (l .at) (l .total) (l .inv .1))
+add-at c = omega (arith, beyond c .fits)
 
 loop-less : tie.Need-loop-less Inv-loop μ-loop
-loop-less c =
-    let a = c .before .before .before .before .before .before .before .before .args in
-    let l = c .before .before .before .before .before .loop in
-    let w = c .before .before .before .before .before .before .before .before .pre .0 in
-    let same = part-to-end (now (a .s)) (l .at) in
-    let fits = measuring-more (now (a .s)) (now (a .set)) (a .count) (w .program) (w .bytes) (l .at) (l .total) (l .inv .1) (c .before .before .before .if1 .taken) in
-    omega (arith, fits, c .record-size .ensures ∙ ap recordSize same, length-drop (l .at) (now (a .s)), measuring-open (now (a .s)) (now (a .set)) (a .count) (w .program) (w .bytes) (l .at) (l .total) (l .inv .1))
+loop-less c = omega (arith, beyond c .large, beyond c .fits)
 
 loop-again : tie.Need-loop-again Inv-loop μ-loop
 loop-again c =
-    let a = c .before .before .before .before .before .before .before .before .args in
-    let l = c .before .before .before .before .before .loop in
-    let w = c .before .before .before .before .before .before .before .before .pre .0 in
-    let same = part-to-end (now (a .s)) (l .at) in
-    let fits = measuring-more (now (a .s)) (now (a .set)) (a .count) (w .program) (w .bytes) (l .at) (l .total) (l .inv .1) (c .before .before .before .if1 .taken) in
-    let size = c .record-size .ensures ∙ ap recordSize same in
+    let at-loop = c .before .before .before .before .before in
+    let a = at-loop .before .before .before .args in
+    let l = at-loop .loop in
+    let more = c .before .before .before .if1 .taken in
+    let same = part-to-end (source at-loop) (l .at) in
+    let size = beyond c .same in
     let long = c .before .measure-remainder .ensures ∙ ap (λ x. length (remainderAt x (now (a .set)) (a .count))) same in (
-      omega (arith, l .inv .0, long, size, remainder-short (drop (l .at) (now (a .s))) (now (a .set)) (a .count) fits),
-      measuring-next (now (a .s)) (now (a .set)) (a .count) (l .at) (l .total) (l .inv .1) (c .before .before .before .if1 .taken) _ _ long size,
+      omega (arith, l .inv .0, long, size, remainder-short (drop (l .at) (source at-loop)) (now (a .set)) (a .count) (fits at-loop more)),
+      measuring-next (now (a .s)) (now (a .set)) (a .count) (l .at) (l .total) (l .inv .1) more _ _ long size,
     )
 
 returns : tie.Need-returns Inv-loop μ-loop

@@ -43,28 +43,20 @@ abbrev try-open-below : ℕ → In 2 try-open-kinds.ps
 try-open-below t =
     and 2 try-open-kinds.ps (falls 2 try-open-kinds.ps _<_ μ-try-open t) try-open.Pre
 
-settle-propagate-requires : (t : ℕ) → settle-lts.Need-propagate-requires (
-  propagate-reads.Asked,
-  propagate-reads.Learnt,
-  try-open-below t,
-  try-open.Post,
-) (settle-at t) settle.Post
+-- what the calls ask and give
+abbrev settle-claims : ℕ → settle-lts.Claims
+settle-claims t = (propagate-reads.Asked, propagate-reads.Learnt, try-open-below t, try-open.Post)
+
+abbrev try-open-claims : ℕ → try-open-lts.Claims
+try-open-claims t = (pick-reads.Asked, pick-reads.Learnt, settle-below t, settle.Post)
+
+settle-propagate-requires : (t : ℕ) → settle-lts.Need-propagate-requires (settle-claims t) (settle-at t) settle.Post
 settle-propagate-requires t c κs = c .before .before .pre .1
 
-settle-returns : (t : ℕ) → settle-lts.Need-returns (
-  propagate-reads.Asked,
-  propagate-reads.Learnt,
-  try-open-below t,
-  try-open.Post,
-) (settle-at t) settle.Post
+settle-returns : (t : ℕ) → settle-lts.Need-returns (settle-claims t) (settle-at t) settle.Post
 settle-returns t c = any-dead (c .before .before .propagate .ensures) (not-true _ (c .if1 .taken))
 
-settle-try-open-requires : (t : ℕ) → settle-lts.Need-try-open-requires (
-  propagate-reads.Asked,
-  propagate-reads.Learnt,
-  try-open-below t,
-  try-open.Post,
-) (settle-at t) settle.Post
+settle-try-open-requires : (t : ℕ) → settle-lts.Need-try-open-requires (settle-claims t) (settle-at t) settle.Post
 settle-try-open-requires t c κs =
     let at-propagate = c .before .before in
     let start = at-propagate .before .before .before in
@@ -73,38 +65,18 @@ settle-try-open-requires t c κs =
     let fewer = fewer-open {P = Model (a .whole) (now (a .bodies)) (now (a .heads)) (a .count)} (v .kept) in
     (omega (arith, fewer, start .pre .0), (start .pre .1 .0, start .pre .1 .1, v .kept .inside (start .pre .1 .2), v .leaf (not-false _ (c .if1 .left))))
 
-settle-returns-2 : (t : ℕ) → settle-lts.Need-returns-2 (
-  propagate-reads.Asked,
-  propagate-reads.Learnt,
-  try-open-below t,
-  try-open.Post,
-) (settle-at t) settle.Post
+settle-returns-2 : (t : ℕ) → settle-lts.Need-returns-2 (settle-claims t) (settle-at t) settle.Post
 settle-returns-2 t c = any-left (c .before .before .before .propagate .ensures) (c .try-open .ensures)
 
-try-open-returns : (t : ℕ) → try-open-lts.Need-returns (
-  pick-reads.Asked,
-  pick-reads.Learnt,
-  settle-below t,
-  settle.Post,
-) (try-open-at t) try-open.Post
+try-open-returns : (t : ℕ) → try-open-lts.Need-returns (try-open-claims t) (try-open-at t) try-open.Post
 try-open-returns t c = first-any (first-leaf (c .if1 .taken) (c .before .before .before .pre .1 .3 (c .if1 .taken)))
 
-try-open-pick-requires : (t : ℕ) → try-open-lts.Need-pick-requires (
-  pick-reads.Asked,
-  pick-reads.Learnt,
-  settle-below t,
-  settle.Post,
-) (try-open-at t) try-open.Post
+try-open-pick-requires : (t : ℕ) → try-open-lts.Need-pick-requires (try-open-claims t) (try-open-at t) try-open.Post
 try-open-pick-requires t c κs =
     let start = c .before .before .before in
     (start .pre .1 .0, start .pre .1 .1, open-some (start .args .must) (start .args .may) (start .pre .1 .2) (c .if1 .left))
 
-try-open-settle-requires : (t : ℕ) → try-open-lts.Need-settle-requires (
-  pick-reads.Asked,
-  pick-reads.Learnt,
-  settle-below t,
-  settle.Post,
-) (try-open-at t) try-open.Post
+try-open-settle-requires : (t : ℕ) → try-open-lts.Need-settle-requires (try-open-claims t) (try-open-at t) try-open.Post
 try-open-settle-requires t c κs =
     let at-pick = c in
     let start = at-pick .before .before .before .before in
@@ -113,12 +85,7 @@ try-open-settle-requires t c κs =
     let inside = tries-inside (a .must) (a .may) _ (start .pre .1 .2) (at-pick .pick .ensures) in
     (omega (arith, less, start .pre .0), (start .pre .1 .0, start .pre .1 .1, search needs))
 
-try-open-returns-2 : (t : ℕ) → try-open-lts.Need-returns-2 (
-  pick-reads.Asked,
-  pick-reads.Learnt,
-  settle-below t,
-  settle.Post,
-) (try-open-at t) try-open.Post
+try-open-returns-2 : (t : ℕ) → try-open-lts.Need-returns-2 (try-open-claims t) (try-open-at t) try-open.Post
 try-open-returns-2 t c =
     let at-absent = c .before in
     let at-pick = at-absent .before in
@@ -126,12 +93,7 @@ try-open-returns-2 t c =
     let a = start .args in
     any-absent {P = Model (a .whole) (now (a .bodies)) (now (a .heads)) (a .count)} (start .pre .1 .2) (at-pick .pick .ensures) (c .if2 .taken) (at-absent .settle .ensures)
 
-try-open-settle-requires-2 : (t : ℕ) → try-open-lts.Need-settle-requires-2 (
-  pick-reads.Asked,
-  pick-reads.Learnt,
-  settle-below t,
-  settle.Post,
-) (try-open-at t) try-open.Post
+try-open-settle-requires-2 : (t : ℕ) → try-open-lts.Need-settle-requires-2 (try-open-claims t) (try-open-at t) try-open.Post
 try-open-settle-requires-2 t c κs =
     let at-pick = c .before .before in
     let start = at-pick .before .before .before .before in
@@ -140,12 +102,7 @@ try-open-settle-requires-2 t c κs =
     let inside = tries-inside (a .must) (a .may) _ (start .pre .1 .2) (at-pick .pick .ensures) in
     (omega (arith, less, start .pre .0), (start .pre .1 .0, start .pre .1 .1, search needs))
 
-try-open-returns-3 : (t : ℕ) → try-open-lts.Need-returns-3 (
-  pick-reads.Asked,
-  pick-reads.Learnt,
-  settle-below t,
-  settle.Post,
-) (try-open-at t) try-open.Post
+try-open-returns-3 : (t : ℕ) → try-open-lts.Need-returns-3 (try-open-claims t) (try-open-at t) try-open.Post
 try-open-returns-3 t c =
     let at-none = c .before in
     let at-absent = at-none .before in
@@ -156,12 +113,7 @@ try-open-returns-3 t c =
     (c .settle2 .ensures)
 
 pub +settle+try-open-spec : {M : Type 1} → statement M
-+settle+try-open-spec = close μ-settle μ-try-open (λ t. settle-lts.spec (
-  propagate-reads.Asked,
-  propagate-reads.Learnt,
-  try-open-below t,
-  try-open.Post,
-)
++settle+try-open-spec = close μ-settle μ-try-open (λ t. settle-lts.spec (settle-claims t)
     (settle-at t)
     settle.Post
     (settle-propagate-requires t)
@@ -169,7 +121,7 @@ pub +settle+try-open-spec : {M : Type 1} → statement M
     (settle-try-open-requires t)
     (settle-returns-2 t))
     λ t. try-open-lts.spec
-    (pick-reads.Asked, pick-reads.Learnt, settle-below t, settle.Post)
+    (try-open-claims t)
     (try-open-at t)
     try-open.Post
     (try-open-returns t)

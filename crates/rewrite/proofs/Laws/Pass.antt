@@ -28,9 +28,7 @@ use Rattle.emit.proofs.Laws.Stands.{More, stands-open, stands-end, stands-more,
 use Rattle.expand.specs.Writing.{lengthAt, countAt}
 use Rattle.expand.proofs.Laws.Options.{encoded-rules-append}
 use Rattle.expand.proofs.Laws.Sizes.{told, length-translated}
-use Rattle.translate.specs.Translate.{translated}
-use Rattle.translate.specs.Pass.{Translatable}
-use Rattle.translate.proofs.Laws.Translate.{translated-written}
+use Rattle.rewrite.specs.Pass.{Translatable}
 
 -- three rules at most for five bytes of a record, which has seven at least
 few-rules : (r : Rule) → 5 * translatedCount r ≤ 3 * recordLength r
@@ -170,7 +168,5 @@ module _ (F : Limits) (s out₀ : List ℕ) (bytes : Bytes s) (w : Translatable 
       omega (arith, ap length (sound .0), leb→le (length (encodedProgram (w .program))) (F .length) k)
 
   -- what is left of its translation
-  pub pass-left : (out : List ℕ) (at n made to : ℕ) → Pass s out₀ out at n made to → Left F s (translated F s out₀ .buffer) out at n made to
-  pass-left out at n made to pass =
-      subst (λ (g : List ℕ). Left F s g out at n made to) (sym (translated-written F s out₀ (w .program) (w .holds) (w .fits)))
-      (pass F (w .program) (sound .0) (sound .1) (w .fits))
+  pub pass-left : (out : List ℕ) (at n made to : ℕ) → Pass s out₀ out at n made to → Left F s (write out₀ 0 (encodedProgram (translation (w .program)))) out at n made to
+  pass-left out at n made to pass = pass F (w .program) (sound .0) (sound .1) (w .fits)

@@ -1,11 +1,11 @@
--- `pass::translate` meets its contract: the refusal of measuring, 9 for too short a buffer, or the second pass.
+-- `translate::translate` meets its contract: the refusal of measuring, 9 for too short a buffer, or the second pass.
 -- Assumes nothing.
 use mathlib.Core.Path.{sym, _∙_}
 use borrow.Author.Needs.{needs}
 use denote.Ref.{now}
 use Rattle.translate.proofs.Laws.Translate.{measured-refusal, measured-short, translatable, measured-written}
-use Rattle.translate.proofs.pass.translate.Statement.{statement}
-use Rattle.translate.proofs.pass.translate.Tie as tie
+use Rattle.translate.proofs.translate.translate.Statement.{statement}
+use Rattle.translate.proofs.translate.translate.Tie as tie
 
 measure-source-requires : tie.Need-measure-source-requires
 measure-source-requires c κs = search needs

@@ -1,4 +1,4 @@
--- `is_defeated` meets its contract: the mark of the record's tag and option is searched.
+-- `options::is_defeated` meets its contract: the mark of the record's tag and option is searched.
 -- Assumes nothing.
 use mathlib.Core.Path.{_∙_, ap₂}
 use denote.Ref.{now}
@@ -7,8 +7,8 @@ use Rattle.literal.specs.declared.SignedAtom.{SignedAtom}
 use Rattle.literal.specs.declared.Literal.the-variants.{Defeated}
 use Rattle.litset.specs.Keys.{keySet}
 use borrow.Author.Needs.{needs}
-use Rattle.remains.proofs.is_defeated.Statement.{statement}
-use Rattle.remains.proofs.is_defeated.Tie as tie
+use Rattle.quotient.proofs.options.is_defeated.Statement.{statement}
+use Rattle.quotient.proofs.options.is_defeated.Tie as tie
 
 tag-at-requires : tie.Need-tag-at-requires
 tag-at-requires c κs = search needs

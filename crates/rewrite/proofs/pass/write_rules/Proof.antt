@@ -8,14 +8,16 @@ use mathlib.Core.Path.{subst, _≡_, refl, sym, _∙_, ap}
 use lib.ListN.{length, getD, length-drop}
 use borrow.Author.Needs.{needs}
 use denote.Ref.{now}
+use Rattle.buffer.specs.Write.{write}
+use Rattle.semantics.specs.Translation.{translation}
+use Rattle.record.specs.Layout.{encodedProgram}
 use Rattle.record.proofs.Laws.Literals.{part-to-end}
-use Rattle.translate.specs.Translate.{translated}
 use Rattle.record.specs.Code.{recordSize}
 use Rattle.emit.specs.Starts.{Starts}
 use Rattle.expand.specs.Writing.{lengthAt, countAt}
-use Rattle.translate.proofs.Laws.Pass.{Left, Next, Pass, pass-start, pass-next, pass-left, short-source, left-open, left-next, left-end}
-use Rattle.translate.proofs.pass.write_rules.Statement.{statement}
-use Rattle.translate.proofs.pass.write_rules.Tie as tie
+use Rattle.rewrite.proofs.Laws.Pass.{Left, Next, Pass, pass-start, pass-next, pass-left, short-source, left-open, left-next, left-end}
+use Rattle.rewrite.proofs.pass.write_rules.Statement.{statement}
+use Rattle.rewrite.proofs.pass.write_rules.Tie as tie
 
 abbrev Inv-loop : tie.InvT-loop
 Inv-loop s out₀ at₀ number₀ made₀ to₀ out at number made to = (5 * made ≤ 3 * at) × (7 * number ≤ at + 7) × (length out ≡ length out₀) × Pass s out₀ out at number made to
@@ -24,14 +26,14 @@ abbrev μ-loop : tie.MeasureT-loop
 μ-loop s out₀ at₀ number₀ made₀ to₀ out at number made to = length s - at
 
 -- what is left, wherever the loop is
-left-now : (c : tie.At-loop Inv-loop μ-loop) → Left (c .before .before .before .args .lim) (now (c .before .before .before .args .s)) (translated (c .before .before .before .args .lim) (now (c .before .before .before .args .s)) (c .before .before .before .args .out .now) .buffer) (c .loop .out) (c .loop .at) (c .loop .number) (c .loop .made) (c .loop .to)
+left-now : (c : tie.At-loop Inv-loop μ-loop) → Left (c .before .before .before .args .lim) (now (c .before .before .before .args .s)) (write (c .before .before .before .args .out .now) 0 (encodedProgram (translation (c .before .before .before .pre .1 .program)))) (c .loop .out) (c .loop .at) (c .loop .number) (c .loop .made) (c .loop .to)
 left-now c =
     let a = c .before .before .before .args in
     let l = c .loop in
     pass-left (a .lim) (now (a .s)) (a .out .now) (λ i. c .before .before .shared-slice-known .given i .fits) (c .before .before .before .pre .1) (l .out) (l .at) (l .number) (l .made) (l .to) (l .inv .3)
 
 -- the next rule's record, where there is no E
-next-rule : (c : tie.After-part Inv-loop μ-loop) → Next (c .before .before .before .before .before .before .args .lim) (now (c .before .before .before .before .before .before .args .s)) (translated (c .before .before .before .before .before .before .args .lim) (now (c .before .before .before .before .before .before .args .s)) (c .before .before .before .before .before .before .args .out .now) .buffer) (c .before .before .before .loop .out) (c .before .before .before .loop .at) (c .before .before .before .loop .number) (c .before .before .before .loop .made) (c .before .before .before .loop .to)
+next-rule : (c : tie.After-part Inv-loop μ-loop) → Next (c .before .before .before .before .before .before .args .lim) (now (c .before .before .before .before .before .before .args .s)) (write (c .before .before .before .before .before .before .args .out .now) 0 (encodedProgram (translation (c .before .before .before .before .before .before .pre .1 .program)))) (c .before .before .before .loop .out) (c .before .before .before .loop .at) (c .before .before .before .loop .number) (c .before .before .before .loop .made) (c .before .before .before .loop .to)
 next-rule c =
     let l = c .before .before .before .loop in
     left-next _ _ _ (l .out) (l .at) (l .number) (l .made) (l .to) (left-now (c .before .before .before)) (c .before .if1 .taken)
@@ -146,11 +148,13 @@ same-length : tie.Need-same-length Inv-loop μ-loop
 same-length c = c .before .before .write-end .kept .1 .0 ∙ c .before .before .before .before .before .before .loop .inv .2
 
 returns : tie.Need-returns Inv-loop μ-loop
-returns c =
-    let a = c .before .before .before .before .before .before .before .before .before .args in
-    let l = c .before .before .before .before .before .before .loop in
+returns c w =
+    let at-loop = c .before .before .before .before .before .before in
+    let start = at-loop .before .before .before in
+    let a = start .args in
+    let l = at-loop .loop in
     let s = now (a .s) in
-    let left = left-now (c .before .before .before .before .before .before) in
+    let left = pass-left (a .lim) s (a .out .now) (λ i. at-loop .before .before .shared-slice-known .given i .fits) w (l .out) (l .at) (l .number) (l .made) (l .to) (l .inv .3) in
     c .before .before .write-end .ensures ∙ sym (left-end (a .lim) s _ (l .out) (l .at) (l .number) (l .made) (l .to) left (c .before .before .before .before .if1 .left) .0)
 
 pub write-rules-spec : {M : Type 1} → statement M

@@ -1,4 +1,4 @@
--- `pass::translate_source` meets its contract: sources are of a form that can be translated.
+-- `translate::translate_source` meets its contract: sources are of a form that can be translated.
 -- Assumes nothing.
 use mathlib.Core.Path.{sym, subst}
 use borrow.Author.Needs.{needs}
@@ -6,8 +6,8 @@ use denote.Ref.{now}
 use Rattle.literal.specs.Limits.{source}
 use Rattle.measure.specs.Measure.{Writable}
 use Rattle.translate.proofs.Laws.Translate.{meets-same, writable-source}
-use Rattle.translate.proofs.pass.translate_source.Statement.{statement}
-use Rattle.translate.proofs.pass.translate_source.Tie as tie
+use Rattle.translate.proofs.translate.translate_source.Statement.{statement}
+use Rattle.translate.proofs.translate.translate_source.Tie as tie
 
 limits-requires : tie.Need-limits-requires
 limits-requires c κs = search needs
