@@ -1,5 +1,5 @@
 -- Laws of measuring, one record each: what is measured so far and the part that is left come to.
--- In order: a step that is a rule; its length; measuring on; a part that is left; what the answer says.
+-- In order: a rule's record; its length; measuring on; a part that is left; what the answer says.
 -- Assumes nothing.
 use Prim.Native.Nat.{ℕ, suc, _+_, _*_, _-_, _≤_, _<_}
 use native.Mathlib.Omega.{arith}
@@ -22,32 +22,18 @@ use Rattle.record.specs.declared.Written.{Written}
 use Rattle.record.specs.declared.Written.the-variants.{Length, Refused}
 use Rattle.record.specs.Refusal.{refusal, shifted}
 use Rattle.record.specs.Result.{Result, accepted, refused, andThen}
-use Rattle.record.specs.Reading.{Entry, rule, end, recordAt, rulesFrom, parsed}
+use Rattle.record.specs.Reading.{rule, end, recordAt, rulesFrom, parsed}
 use Rattle.record.specs.Layout.{encodedEnd}
 use Rattle.record.specs.Code.{stepOf}
 use Rattle.record.proofs.Laws.Result.{refuse-if-true, refuse-if-false}
 use Rattle.record.proofs.Laws.Layout.{length-encoded-rule}
 use Rattle.record.proofs.Laws.Steps.{rules-refused, rules-rule, rules-end}
-use Rattle.record.proofs.Laws.Program.{step-refused}
+use Rattle.record.proofs.Laws.Program.{step-rule, step-end, step-refused}
 use Rattle.record.proofs.Laws.Sound.{EntryRule, record-sound}
 use Rattle.emit.specs.Starts.{Starts}
 use Rattle.expand.specs.Writing.{lengthAt}
 use Rattle.measure.specs.Measure.{measuredOf, measured, measuredOn}
 use Rattle.expand.proofs.Laws.Sizes.{told}
-
--- a step that is a rule is that record
-step-rule : (e : Result Entry) (size : ℕ) → stepOf e ≡ Step.Rule size → (r : Rule) × (e ≡ accepted (rule r size))
-unfolding stepOf
-step-rule (accepted (rule r k)) size e = let q : k ≡ size = cc in (r, ap (λ (m : ℕ). accepted (rule r m)) q)
-step-rule (accepted end) size e = let z : _≡_ {A = ℕ} 0 1 = cc in absurd (omega arith)
-step-rule (refused x) size e = let z : _≡_ {A = ℕ} 0 1 = cc in absurd (omega arith)
-
--- and the end
-step-end : (e : Result Entry) → stepOf e ≡ Step.End → e ≡ accepted end
-unfolding stepOf
-step-end (accepted (rule r k)) e = let z : _≡_ {A = ℕ} 0 1 = cc in absurd (omega arith)
-step-end (accepted end) e = refl
-step-end (refused x) e = let z : _≡_ {A = ℕ} 0 1 = cc in absurd (omega arith)
 
 -- a rule's record: its rule, whose record starts the part, and its size
 pub record StepRule (F : Limits) (n : ℕ) (t : List ℕ) (size : ℕ) : Type 0 where
