@@ -4,6 +4,7 @@
 set -euo pipefail
 root=$(cd "$(dirname "$(readlink -f "${BASH_SOURCE[0]}")")" && pwd)
 
+command -v cargo >/dev/null || { echo "aspda.sh: cargo is missing (Debian: apt-get install cargo)" >&2; exit 1; }
 if [ ! -f "$root/target/staticlib/libaspda.a" ]; then
     echo "aspda.sh: building the library; everything is proved first, which takes some minutes" >&2
     log=$(mktemp)

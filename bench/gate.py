@@ -36,7 +36,7 @@ class Memory(threading.Thread):
     def sample(self, status):
         try:
             words = (status.parent / "cmdline").read_bytes().split(b"\0")
-            if b"check" not in words[:2] or b"--crate-name" not in words:
+            if not words[0].endswith(b"/rattle") or b"--crate-name" not in words:
                 return
             crate = words[words.index(b"--crate-name") + 1].decode()
             size = re.search(r"^VmHWM:\s+(\d+)", status.read_text(), re.M)

@@ -18,6 +18,8 @@ use std::time::Instant;
 extern "C" {
     fn aspda_read_source(p: *const u8, n: usize) -> u64;
     fn aspda_read_plain(p: *const u8, n: usize) -> u64;
+    fn aspda_show_source(p: *const u8, n: usize, rule: u32) -> u64;
+    fn aspda_show_plain(p: *const u8, n: usize, rule: u32) -> u64;
     fn aspda_translate(p: *const u8, n: usize, out: *mut u8, m: usize) -> u64;
 }
 
@@ -93,11 +95,26 @@ fn best(mut ours: impl FnMut() -> u64, mut theirs: impl FnMut() -> u64) -> (f64,
     (a, b)
 }
 
-fn row(name: &str, bytes: &[u8], limits: &Limits, proved: unsafe extern "C" fn(*const u8, usize) -> u64) {
-    let ours = || unsafe { proved(black_box(bytes).as_ptr(), bytes.len()) };
-    let theirs = || plain_reader::read(black_box(limits), black_box(bytes));
-    assert_eq!(ours(), theirs(), "the two readers disagree on {name}");
+/// Two calls that answer a word about these bytes, and a copy of the bytes.
+fn row(name: &str, bytes: &[u8], proved: impl Fn(&[u8]) -> u64, plain: impl Fn(&[u8]) -> u64) {
+    let (ours, theirs) = (|| proved(black_box(bytes)), || plain(black_box(bytes)));
+    assert_eq!(ours(), theirs(), "the two disagree on {name}");
     speed(name, bytes.len(), best(ours, theirs), copied(bytes));
+}
+
+fn read_row(name: &str, bytes: &[u8], limits: &Limits, proved: unsafe extern "C" fn(*const u8, usize) -> u64) {
+    row(name, bytes, |p| unsafe { proved(p.as_ptr(), p.len()) }, |p| plain_reader::read(black_box(limits), p));
+}
+
+/// The last rule's record.
+fn show_row(name: &str, bytes: &[u8], limits: &Limits, proved: unsafe extern "C" fn(*const u8, usize, u32) -> u64) {
+    let last = plain_reader::read(limits, bytes) as u32;
+    row(
+        name,
+        bytes,
+        |p| unsafe { proved(p.as_ptr(), p.len(), black_box(last)) },
+        |p| plain_reader::show(black_box(limits), p, black_box(last)),
+    );
 }
 
 /// Seconds for a copy of these bytes: what no program can beat that looks at each of them.
@@ -160,8 +177,10 @@ fn translate_row(name: &str, source: &[u8]) {
 
 fn main() {
     println!("operation               bytes  proved MB/s    Rust MB/s  ratio  memcpy MB/s");
-    row("read source", &source(), &SOURCE, aspda_read_source);
-    row("read plain", &plain(), &PLAIN, aspda_read_plain);
+    read_row("read source", &source(), &SOURCE, aspda_read_source);
+    read_row("read plain", &plain(), &PLAIN, aspda_read_plain);
+    show_row("show source", &source(), &SOURCE, aspda_show_source);
+    show_row("show plain", &plain(), &PLAIN, aspda_show_plain);
     translate_row("translate all", &source());
     translate_row("translate D:", &options());
     sets::rows();

@@ -115,3 +115,17 @@ pub fn read(limits: &Limits, bytes: &[u8]) -> u64 {
         held += 1;
     }
 }
+
+/// Where the record of a rule lies, from 1: its start and its length. The program is read, then its records are passed.
+pub fn show(limits: &Limits, bytes: &[u8], rule: u32) -> u64 {
+    let held = read(limits, bytes);
+    if held >> 63 == 1 {
+        return held;
+    }
+    if rule == 0 || u64::from(rule) > held {
+        return refusal(13, 0);
+    }
+    let size = |at: usize| 7 + 5 * bytes[at + 4..at + 7].iter().map(|&count| count as usize).sum::<usize>();
+    let start = (1..rule).fold(0, |at, _| at + size(at));
+    ((start as u64) << 32) + size(start) as u64
+}
