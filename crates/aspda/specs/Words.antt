@@ -5,13 +5,13 @@ use Prim.Native.Nat.{ℕ, _+_, _*_, _<_}
 use mathlib.Core.Path.{_≡_}
 use mathlib.Core.List.{List}
 use Rattle.record.specs.declared.Refusal.{Refusal}
-use Rattle.record.specs.declared.Extent.{Extent}
+use Rattle.showing.specs.declared.Extent.{Extent}
 use Rattle.record.specs.declared.Reading.{Reading}
 use Rattle.record.specs.declared.Written.{Written}
 use Rattle.judge.specs.declared.Verdict.{Verdict}
 use Rattle.verdict.specs.declared.Check.{Check}
 use Rattle.verdict.specs.Check.{Checked}
-use Rattle.record.specs.declared.Shown.{Shown}
+use Rattle.showing.specs.declared.Shown.{Shown}
 use Rattle.record.specs.Refusal.{refusalNumber}
 use Rattle.record.specs.Result.{Outcome}
 

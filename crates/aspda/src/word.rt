@@ -1,12 +1,12 @@
 // Answers as 64-bit words.
 
 use judge::Verdict;
-use record::Extent;
 use record::Reading;
 use record::Refusal;
-use record::Shown;
 use record::Written;
 use record::number::reason_number;
+use showing::Extent;
+use showing::Shown;
 use verdict::Check;
 ghost use mathlib.Core.Path.{_≡_};
 ghost use Rattle.aspda.specs.Words.{refusalWord, readingWord, writtenWord, extentWord, shownWord, ShortPlace, ShortExtent, ShortReading, ShortWritten, ShortShown, ShortVerdict, ShortCheck, verdictWord, checkWord};

@@ -4,7 +4,7 @@
 use crate::Built;
 use crate::Clause;
 use crate::rule::clause_of;
-use record::show::record_size;
+use record::size::record_size;
 ghost use mathlib.Core.Path.{_≡_};
 ghost use lib.ListN.{length};
 ghost use Rattle.clauses.specs.Build.{Buildable, isBroken, Clauses};

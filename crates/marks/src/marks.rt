@@ -11,7 +11,7 @@ use literal::code::kind_of;
 use literal::code::tag_of;
 use literal::order::make_key;
 use litset::member::is_member;
-use record::show::record_size;
+use record::size::record_size;
 ghost use mathlib.Core.Path.{_≡_};
 ghost use mathlib.Core.Bool.{_&&_, not};
 ghost use mathlib.Core.List.{[], _∷_, map};

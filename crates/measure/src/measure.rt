@@ -2,11 +2,11 @@
 
 use expand::rules::measure_rule;
 use literal::Limits;
+use reading::step::read_record;
 use record::Reason;
 use record::Refusal;
 use record::Step;
 use record::Written;
-use record::read::read_record;
 ghost use mathlib.Core.Path.{_≡_};
 ghost use Rattle.measure.specs.Measure.{measured, Writable};
 

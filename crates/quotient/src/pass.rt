@@ -3,7 +3,7 @@
 use crate::remainder::measure_remainder;
 use crate::remainder::write_remainder;
 use emit::records::write_end;
-use record::show::record_size;
+use record::size::record_size;
 ghost use mathlib.Core.Path.{_≡_};
 ghost use mathlib.Core.Bool.{cond};
 ghost use Prim.Native.Nat.{_+_, _*_, _≤_};

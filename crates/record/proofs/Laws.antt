@@ -11,6 +11,5 @@ pub mod Walk
 pub mod Sound
 pub mod Complete
 pub mod Reading
-pub mod Shown
 pub mod Bounds
 pub mod Delivered

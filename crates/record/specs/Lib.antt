@@ -3,6 +3,4 @@ pub mod Result
 pub mod Meets
 pub mod Layout
 pub mod Reading
-pub mod Show
 pub mod Code
-pub mod Part

@@ -1,4 +1,4 @@
-// Records and programs: what reading finds in a slice, where rule n lies, and what an operation refuses.
+// Records and programs: what reading finds in a slice, and what an operation refuses.
 
 // Why an operation refuses. Document 01's number of each reason is `reasonNumber` of specs/Refusal.antt.
 pub enum Reason {
@@ -56,18 +56,6 @@ pub enum Written {
     Refused(Refusal),
 }
 
-// Where a record lies in its slice.
-pub struct Extent {
-    pub start: usize,
-    pub size: usize,
-}
-
-// What showing a rule's record answers.
-pub enum Shown {
-    At(Extent),
-    Refused(Refusal),
-}
-
 // The mark at a record's start.
 pub enum Mark {
     // S: or D:, the latter of a defeasible rule.
@@ -92,5 +80,4 @@ pub enum Step {
 }
 
 pub mod number;
-pub mod read;
-pub mod show;
+pub mod size;

@@ -6,7 +6,7 @@ use expand::rules::measure_rule;
 use expand::rules::write_rule;
 use literal::Limits;
 use literal::RuleNo;
-use record::show::record_size;
+use record::size::record_size;
 ghost use mathlib.Core.Path.{_≡_};
 ghost use Rattle.buffer.specs.Write.{write};
 ghost use Rattle.semantics.specs.Translation.{translation};

@@ -16,14 +16,15 @@ use Rattle.record.specs.declared.Reason.the-variants.{OutputShort}
 use Rattle.record.specs.declared.Refusal.{Refusal}
 use Rattle.record.specs.declared.Written.{Written}
 use Rattle.record.specs.declared.Reading.{Reading}
-use Rattle.record.specs.declared.Shown.{Shown}
+use Rattle.showing.specs.declared.Shown.{Shown}
 use Rattle.record.specs.Refusal.{refusal}
 use Rattle.record.specs.Result.{Result, accepted, refused, andThen, Outcome, delivered}
 use Rattle.record.specs.Layout.{encodedProgram}
 use Rattle.record.specs.Reading.{parsed, reading}
-use Rattle.record.specs.Show.{shown}
+use Rattle.showing.specs.Show.{shown}
 use Rattle.record.proofs.Laws.Places.{Placed, and-then-placed}
-use Rattle.record.proofs.Laws.Bounds.{parsed-placed, reading-place, shown-place, shown-end}
+use Rattle.record.proofs.Laws.Bounds.{parsed-placed, reading-place}
+use Rattle.showing.proofs.Laws.Bounds.{shown-place, shown-end}
 use Rattle.translate.specs.Translate.{translatedBytes, translated}
 use Rattle.litset.specs.Layout.{encodedSet}
 use Rattle.litset.specs.Reading.{parsedSet}

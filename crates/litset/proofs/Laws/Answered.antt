@@ -14,7 +14,7 @@ use Rattle.semantics.specs.Rule.{Program}
 use Rattle.record.specs.declared.Reading.{Reading}
 use Rattle.record.specs.Result.{Result, accepted, refused}
 use Rattle.record.specs.Reading.{parsed, reading}
-use Rattle.record.proofs.Laws.Shown.{read-rules, read-refused}
+use Rattle.record.proofs.Laws.Reading.{read-rules, read-refused}
 use Rattle.litset.specs.declared.SetReading.{SetReading}
 use Rattle.litset.specs.Answer.{programRefusal, setRefusal}
 use Rattle.litset.specs.Reading.{parsedSet, setReadingOf, setReading}

@@ -140,12 +140,12 @@ module _ (F : Limits) (d : Bool) (t : List ℕ) (h b c : ℕ) where
   -- 2: the literals are cut
   pub body-cut : length t < 7 + 5 * (h + b + c) → stepOf (bodyAt F d t h b c) ≡ Step.Refused (refusal LiteralsCut 0)
   unfolding bodyAt stepOf
-  body-cut short = ap stepOf (refuse-if-true (ltb (length t) (7 + 5 * (h + b + c))) _ _ (lt-ltb (length t) (7 + 5 * (h + b + c)) short))
+  body-cut short = ap stepOf (refuse-if-true _ _ _ (lt-ltb (length t) (7 + 5 * (h + b + c)) short))
 
   module _ (fits : 7 + 5 * (h + b + c) ≤ length t) where
     body-run : bodyAt F d t h b c ≡ andThen (literalsAt F t 7 (h + b + c)) finish
     unfolding bodyAt finish sized size
-    body-run = refuse-if-false (ltb (length t) (7 + 5 * (h + b + c))) _ _ (le-ltb (length t) (7 + 5 * (h + b + c)) fits)
+    body-run = refuse-if-false _ _ _ (le-ltb (length t) (7 + 5 * (h + b + c)) fits)
 
     -- 5: the first wrong literal
     pub body-wrong : (x : Refusal) → runOf (literalsAt F t 7 (h + b + c)) ≡ Run.Refused x → stepOf (bodyAt F d t h b c) ≡ Step.Refused x

@@ -93,11 +93,11 @@ module _ (F : Limits) where
         → (r : Rule) → ruleOf d tag (length h) (length b) (h ++ (b ++ c)) ≡ accepted r → ruleAt F d n t ≡ accepted (rule r size)
     unfolding ruleAt bodyAt t ruleRecord size
     rule-complete taken counts right room r is =
-        refuse-if-false (ltb (length t) 7) _ _ (le-ltb (length t) 7 (omega (arith, long)))
-        ∙ refuse-if-false (leb (F .rules) n) _ _ (lt-leb (F .rules) n room)
-        ∙ refuse-if-false (not (tagRight F d (numberAt t 2))) _ _ (failed (tagRight F d (numberAt t 2)) (subst (λ (k : ℕ). T (tagRight F d k)) (sym tag-is) right))
-        ∙ refuse-if-false (not (keepsCounts F (length h) (length b) (length c))) _ _ (failed (keepsCounts F (length h) (length b) (length c)) counts)
-        ∙ refuse-if-false (ltb (length t) size) _ _ (le-ltb (length t) size long)
+        refuse-if-false _ _ _ (le-ltb (length t) 7 (omega (arith, long)))
+        ∙ refuse-if-false _ _ _ (lt-leb (F .rules) n room)
+        ∙ refuse-if-false _ _ _ (failed (tagRight F d (numberAt t 2)) (subst (λ (k : ℕ). T (tagRight F d k)) (sym tag-is) right))
+        ∙ refuse-if-false _ _ _ (failed (keepsCounts F (length h) (length b) (length c)) counts)
+        ∙ refuse-if-false _ _ _ (le-ltb (length t) size long)
         ∙ ap (λ (q : Result (List Literal)). andThen q finish) (literals-are taken)
         ∙ accepted-and-then (h ++ (b ++ c)) finish
         ∙ ap (λ (k : ℕ). andThen (ruleOf d k (length h) (length b) (h ++ (b ++ c))) sized) tag-is
@@ -159,7 +159,7 @@ module _ (F : Limits) where
 
   two : (t : List ℕ) → 2 ≤ length t → (n : ℕ) → recordAt F n t ≡ markedRecord F (markAt F t) n t
   unfolding recordAt
-  two t h n = refuse-if-false (ltb (length t) 2) _ _ (le-ltb (length t) 2 h)
+  two t h n = refuse-if-false _ _ _ (le-ltb (length t) 2 h)
 
   -- a record with this mark, header and literals
   marked-complete : (d : Bool) (n l tag : ℕ) (h b c : List Literal) (rest : List ℕ) (r : Rule) → markAt F (ruleRecord l tag h b c ++ rest) ≡ RuleMark d
@@ -203,7 +203,7 @@ module _ (F : Limits) where
   -- the end record of the rules held
   end-complete : (n : ℕ) → recordAt F n (encodedEnd n) ≡ accepted end
   unfolding recordAt refuseIf markAt marked pickMark markedRecord encodedEnd endAt
-  end-complete n = refuse-if-false (not (eqb (n / 256 * 256 + n % 256) n && true)) _ _ (failed (eqb (n / 256 * 256 + n % 256) n && true) (both (eqb (n / 256 * 256 + n % 256) n) true (subst (λ (k : ℕ). T (eqb k n)) whole (eqb-refl n)) tt))
+  end-complete n = refuse-if-false _ _ _ (failed (eqb (n / 256 * 256 + n % 256) n && true) (both (eqb (n / 256 * 256 + n % 256) n) true (subst (λ (k : ℕ). T (eqb k n)) whole (eqb-refl n)) tt))
     where
       whole : n ≡ n / 256 * 256 + n % 256
       whole = omega arith

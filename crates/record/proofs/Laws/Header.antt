@@ -24,69 +24,69 @@ module _ (F : Limits) (d : Bool) (n : ℕ) (t : List ℕ) where
   -- 2: the header is cut
   pub rule-cut : length t < 7 → stepOf (ruleAt F d n t) ≡ Step.Refused (refusal HeaderCut 0)
   unfolding ruleAt stepOf
-  rule-cut h = ap stepOf (refuse-if-true (ltb (length t) 7) _ _ (lt-ltb (length t) 7 h))
+  rule-cut h = ap stepOf (refuse-if-true _ _ _ (lt-ltb (length t) 7 h))
 
   module _ (whole : 7 ≤ length t) where
     -- 4: one rule too many
     pub rule-many : F .rules ≤ n → stepOf (ruleAt F d n t) ≡ Step.Refused (refusal TooManyRules 0)
     unfolding ruleAt stepOf
-    rule-many h = ap stepOf (refuse-if-false (ltb (length t) 7) _ _ (le-ltb (length t) 7 whole) ∙ refuse-if-true (leb (F .rules) n) _ _ (le-leb (F .rules) n h))
+    rule-many h = ap stepOf (refuse-if-false _ _ _ (le-ltb (length t) 7 whole) ∙ refuse-if-true _ _ _ (le-leb (F .rules) n h))
 
     module _ (room : n < F .rules) where
       rule-room : ruleAt F d n t
           ≡ refuseIf (not (tagRight F d (numberAt t 2))) (refusal TagWrong 0)
           (refuseIf (not (keepsCounts F (getD t 4 0) (getD t 5 0) (getD t 6 0))) (refusal TooManyLiterals 0) (bodyAt F d t (getD t 4 0) (getD t 5 0) (getD t 6 0)))
       unfolding ruleAt
-      rule-room = refuse-if-false (ltb (length t) 7) _ _ (le-ltb (length t) 7 whole) ∙ refuse-if-false (leb (F .rules) n) _ _ (lt-leb (F .rules) n room)
+      rule-room = refuse-if-false _ _ _ (le-ltb (length t) 7 whole) ∙ refuse-if-false _ _ _ (lt-leb (F .rules) n room)
 
       -- 6: the tag is out of its range
       pub rule-tag : tagRight F d (numberAt t 2) ≡ false → stepOf (ruleAt F d n t) ≡ Step.Refused (refusal TagWrong 0)
       unfolding stepOf
-      rule-tag e = ap stepOf (rule-room ∙ refuse-if-true (not (tagRight F d (numberAt t 2))) _ _ (ap not e))
+      rule-tag e = ap stepOf (rule-room ∙ refuse-if-true _ _ _ (ap not e))
 
       module _ (tag : tagRight F d (numberAt t 2) ≡ true) where
         -- 4: a count over its limit
         pub rule-counts : keepsCounts F (getD t 4 0) (getD t 5 0) (getD t 6 0) ≡ false → stepOf (ruleAt F d n t) ≡ Step.Refused (refusal TooManyLiterals 0)
         unfolding stepOf
         rule-counts e =
-            ap stepOf (rule-room ∙ refuse-if-false (not (tagRight F d (numberAt t 2))) _ _ (ap not tag)
-            ∙ refuse-if-true (not (keepsCounts F (getD t 4 0) (getD t 5 0) (getD t 6 0))) _ _ (ap not e))
+            ap stepOf (rule-room ∙ refuse-if-false _ _ _ (ap not tag)
+            ∙ refuse-if-true _ _ _ (ap not e))
 
         -- then the body
         pub rule-body : keepsCounts F (getD t 4 0) (getD t 5 0) (getD t 6 0) ≡ true → stepOf (ruleAt F d n t) ≡ stepOf (bodyAt F d t (getD t 4 0) (getD t 5 0) (getD t 6 0))
         rule-body e =
-            ap stepOf (rule-room ∙ refuse-if-false (not (tagRight F d (numberAt t 2))) _ _ (ap not tag)
-            ∙ refuse-if-false (not (keepsCounts F (getD t 4 0) (getD t 5 0) (getD t 6 0))) _ _ (ap not e))
+            ap stepOf (rule-room ∙ refuse-if-false _ _ _ (ap not tag)
+            ∙ refuse-if-false _ _ _ (ap not e))
 
 -- the end record
 module _ (n : ℕ) (t : List ℕ) where
   -- 2: it is cut
   pub end-cut : length t < 4 → stepOf (endAt n t) ≡ Step.Refused (refusal HeaderCut 0)
   unfolding endAt stepOf
-  end-cut h = ap stepOf (refuse-if-true (ltb (length t) 4) _ _ (lt-ltb (length t) 4 h))
+  end-cut h = ap stepOf (refuse-if-true _ _ _ (lt-ltb (length t) 4 h))
 
   module _ (whole : 4 ≤ length t) where
     end-whole : endAt n t ≡ refuseIf (not (eqb (numberAt t 2) n && eqb (length t) 4)) (refusal EndWrong 0) (accepted end)
     unfolding endAt
-    end-whole = refuse-if-false (ltb (length t) 4) _ _ (le-ltb (length t) 4 whole)
+    end-whole = refuse-if-false _ _ _ (le-ltb (length t) 4 whole)
 
     -- 8: a wrong number
     pub end-number : (numberAt t 2 ≡ n → ⊥) → stepOf (endAt n t) ≡ Step.Refused (refusal EndWrong 0)
     unfolding stepOf
     end-number e =
-        ap stepOf (end-whole ∙ refuse-if-true (not (eqb (numberAt t 2) n && eqb (length t) 4)) _ _ (ap (λ (x : Bool). not (x && eqb (length t) 4)) (ne-eqb (numberAt t 2) n e)))
+        ap stepOf (end-whole ∙ refuse-if-true _ _ _ (ap (λ (x : Bool). not (x && eqb (length t) 4)) (ne-eqb (numberAt t 2) n e)))
 
     -- 8: bytes behind it
     pub end-behind : (length t ≡ 4 → ⊥) → stepOf (endAt n t) ≡ Step.Refused (refusal EndWrong 0)
     unfolding stepOf
     end-behind e =
-        ap stepOf (end-whole ∙ refuse-if-true (not (eqb (numberAt t 2) n && eqb (length t) 4)) _ _
+        ap stepOf (end-whole ∙ refuse-if-true _ _ _
         (ap (λ (x : Bool). not (eqb (numberAt t 2) n && x)) (ne-eqb (length t) 4 e) ∙ ap not (and-false (eqb (numberAt t 2) n))))
 
     pub end-right : numberAt t 2 ≡ n → length t ≡ 4 → stepOf (endAt n t) ≡ Step.End
     unfolding stepOf
     end-right e f =
-        ap stepOf (end-whole ∙ refuse-if-false (not (eqb (numberAt t 2) n && eqb (length t) 4)) _ _
+        ap stepOf (end-whole ∙ refuse-if-false _ _ _
         (ap (λ (x : Bool). not (x && eqb (length t) 4)) (eq-eqb (numberAt t 2) n e) ∙ ap not (eq-eqb (length t) 4 f)))
 
 -- one record
@@ -94,12 +94,12 @@ module _ (F : Limits) (n : ℕ) (t : List ℕ) where
   -- 2: fewer than two bytes are left
   pub record-cut : length t < 2 → stepOf (recordAt F n t) ≡ Step.Refused (refusal MarkCut 0)
   unfolding recordAt stepOf
-  record-cut h = ap stepOf (refuse-if-true (ltb (length t) 2) _ _ (lt-ltb (length t) 2 h))
+  record-cut h = ap stepOf (refuse-if-true _ _ _ (lt-ltb (length t) 2 h))
 
   module _ (whole : 2 ≤ length t) where
     record-mark : (m : Mark) → markAt F t ≡ m → recordAt F n t ≡ markedRecord F m n t
     unfolding recordAt
-    record-mark m e = refuse-if-false (ltb (length t) 2) _ _ (le-ltb (length t) 2 whole) ∙ ap (λ (x : Mark). markedRecord F x n t) e
+    record-mark m e = refuse-if-false _ _ _ (le-ltb (length t) 2 whole) ∙ ap (λ (x : Mark). markedRecord F x n t) e
 
     pub record-rule : (d : Bool) → markAt F t ≡ RuleMark d → stepOf (recordAt F n t) ≡ stepOf (ruleAt F d n t)
     unfolding markedRecord

@@ -73,28 +73,28 @@ rule-of-placed k false tag h b ls = tt
 body-placed : (F : Limits) (d : Bool) (t : List ℕ) (h b c : ℕ) → Placed (length t) (bodyAt F d t h b c)
 unfolding bodyAt
 body-placed F d t h b c =
-    refuse-if-placed (length t) (ltb (length t) (7 + 5 * (h + b + c))) _ _ (omega arith)
+    refuse-if-placed (length t) _ _ _ (omega arith)
     (λ e. and-then-placed (length t) (literalsAt F t 7 (h + b + c)) _ (literals-placed F t (length t) (h + b + c) 7 (ltb-false (length t) (7 + 5 * (h + b + c)) e))
     (λ ls. and-then-placed (length t) (ruleOf d (numberAt t 2) h b ls) _ (rule-of-placed (length t) d (numberAt t 2) h b ls) (λ r. tt)))
 
 rule-placed : (F : Limits) (d : Bool) (n : ℕ) (t : List ℕ) → Placed (length t) (ruleAt F d n t)
 unfolding ruleAt
 rule-placed F d n t =
-    refuse-if-placed (length t) (ltb (length t) 7) _ _ (omega arith)
-    (λ e. refuse-if-placed (length t) (leb (F .rules) n) _ _ (omega arith)
-    (λ e. refuse-if-placed (length t) (not (tagRight F d (numberAt t 2))) _ _ (omega arith)
-    (λ e. refuse-if-placed (length t) (not (keepsCounts F (getD t 4 0) (getD t 5 0) (getD t 6 0))) _ _ (omega arith)
+    refuse-if-placed (length t) _ _ _ (omega arith)
+    (λ e. refuse-if-placed (length t) _ _ _ (omega arith)
+    (λ e. refuse-if-placed (length t) _ _ _ (omega arith)
+    (λ e. refuse-if-placed (length t) _ _ _ (omega arith)
     (λ e. body-placed F d t (getD t 4 0) (getD t 5 0) (getD t 6 0)))))
 
 end-placed : (k n : ℕ) (t : List ℕ) → Placed k (endAt n t)
 unfolding endAt
 end-placed k n t =
-    refuse-if-placed k (ltb (length t) 4) _ _ (omega arith)
-    (λ e. refuse-if-placed k (not (eqb (numberAt t 2) n && eqb (length t) 4)) _ _ (omega arith) (λ e. tt))
+    refuse-if-placed k _ _ _ (omega arith)
+    (λ e. refuse-if-placed k _ _ _ (omega arith) (λ e. tt))
 
 pub record-placed : (F : Limits) (n : ℕ) (t : List ℕ) → Placed (length t) (recordAt F n t)
 unfolding recordAt markedRecord
-record-placed F n t = refuse-if-placed (length t) (ltb (length t) 2) _ _ (omega arith) (λ e. go (markAt F t))
+record-placed F n t = refuse-if-placed (length t) _ _ _ (omega arith) (λ e. go (markAt F t))
   where
     go : (m : Mark) → Placed (length t) (markedRecord F m n t)
     go (RuleMark d) = rule-placed F d n t

@@ -61,7 +61,7 @@ end-rule e = let z : _≡_ {A = ℕ} 0 1 = cc in omega arith
 body-size : (F : Limits) (d : Bool) (t : List ℕ) (h b c : ℕ) (r : Rule) (size : ℕ) → bodyAt F d t h b c ≡ accepted (rule r size) → Sized t size
 unfolding bodyAt
 body-size F d t h b c r size e =
-    let q1 = refuse-if-accepted (ltb (length t) (7 + 5 * (h + b + c))) _ _ (rule r size) e in
+    let q1 = refuse-if-accepted _ _ _ (rule r size) e in
     let q2 = and-then-accepted (literalsAt F t 7 (h + b + c)) _ (rule r size) (q1 .1) in
     let q3 = and-then-accepted (ruleOf d (numberAt t 2) h b (q2 .0)) _ (rule r size) (q2 .2) in
     let same = rule-size-eq (accepted-eq (q3 .2)) in
@@ -71,20 +71,20 @@ body-size F d t h b c r size e =
 rule-size : (F : Limits) (d : Bool) (n : ℕ) (t : List ℕ) (r : Rule) (size : ℕ) → ruleAt F d n t ≡ accepted (rule r size) → Sized t size
 unfolding ruleAt
 rule-size F d n t r size e =
-    let q1 = refuse-if-accepted (ltb (length t) 7) _ _ (rule r size) e in
-    let q2 = refuse-if-accepted (leb (F .rules) n) _ _ (rule r size) (q1 .1) in
-    let q3 = refuse-if-accepted (not (tagRight F d (numberAt t 2))) _ _ (rule r size) (q2 .1) in
-    let q4 = refuse-if-accepted (not (keepsCounts F (getD t 4 0) (getD t 5 0) (getD t 6 0))) _ _ (rule r size) (q3 .1) in
+    let q1 = refuse-if-accepted _ _ _ (rule r size) e in
+    let q2 = refuse-if-accepted _ _ _ (rule r size) (q1 .1) in
+    let q3 = refuse-if-accepted _ _ _ (rule r size) (q2 .1) in
+    let q4 = refuse-if-accepted _ _ _ (rule r size) (q3 .1) in
     body-size F d t (getD t 4 0) (getD t 5 0) (getD t 6 0) r size (q4 .1)
 
 pub record-size : (F : Limits) (n : ℕ) (t : List ℕ) (r : Rule) (size : ℕ) → recordAt F n t ≡ accepted (rule r size) → Sized t size
 unfolding recordAt markedRecord endAt
-record-size F n t r size e = go (markAt F t) (refuse-if-accepted (ltb (length t) 2) _ _ (rule r size) e .1)
+record-size F n t r size e = go (markAt F t) (refuse-if-accepted _ _ _ (rule r size) e .1)
   where
     go : (m : Mark) → markedRecord F m n t ≡ accepted (rule r size) → Sized t size
     go (RuleMark d) f = rule-size F d n t r size f
     go EndMark f =
-        let q1 = refuse-if-accepted (ltb (length t) 4) _ _ (rule r size) f in
+        let q1 = refuse-if-accepted _ _ _ (rule r size) f in
         absurd (end-rule (accepted-eq (refuse-if-accepted _ _ _ (rule r size) (q1 .1) .1)))
     go NoMark f = absurd (refused-accepted f)
 
@@ -108,7 +108,7 @@ module _ (F : Limits) (s : List ℕ) where
   -- 1: the slice is too long
   pub reading-long : F .length < length s → reading F s ≡ Reading.Refused (refusal TooLong 0)
   unfolding reading parsed readingOf
-  reading-long h = ap readingOf (refuse-if-true (ltb (F .length) (length s)) _ _ (lt-ltb (F .length) (length s) h))
+  reading-long h = ap readingOf (refuse-if-true _ _ _ (lt-ltb (F .length) (length s) h))
 
   read-counted : (q : Result Program) → readingOf q ≡ countedOn 0 q
   unfolding readingOf countedOn
@@ -118,7 +118,7 @@ module _ (F : Limits) (s : List ℕ) where
   pub reading-left : length s ≤ F .length → reading F s ≡ left F s 0 0
   unfolding reading parsed left
   reading-left h =
-      ap readingOf (refuse-if-false (ltb (F .length) (length s)) _ _ (le-ltb (F .length) (length s) h)) ∙ read-counted (rulesFrom F (length s + 1) s 0 0)
+      ap readingOf (refuse-if-false _ _ _ (le-ltb (F .length) (length s) h)) ∙ read-counted (rulesFrom F (length s + 1) s 0 0)
       ∙ ap (λ (f : ℕ). countedOn 0 (rulesFrom F f s 0 0)) fuel
     where
       fuel : length s + 1 ≡ length s + 1 - 0

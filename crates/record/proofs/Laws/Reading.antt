@@ -1,9 +1,10 @@
 -- The law of reading: a form reads b as the program p exactly if b is the encoding of p and p keeps the form's limits.
+-- Before it, what reading answered.
 -- Assumes nothing.
 use Prim.Native.Nat.{ℕ, _+_, _≤_}
 use native.Mathlib.Omega.{arith}
 use native.Mathlib.Nat.{zero-add}
-use mathlib.Core.Path.{_≡_, sym, _∙_, ap, subst}
+use mathlib.Core.Path.{_≡_, refl, sym, _∙_, ap, subst}
 use mathlib.Core.Bool.{_&&_}
 use mathlib.Core.Logic.{_↔_}
 use mathlib.Core.List.{List, _++_}
@@ -17,20 +18,33 @@ use Rattle.semantics.specs.Form.{keepsRule, keepsRules}
 use Rattle.semantics.specs.Set.{all}
 use Rattle.semantics.proofs.Laws.Tests.{both, first, second}
 use Rattle.semantics.proofs.Laws.Form.{keeps-count, keeps-each}
-use Rattle.record.specs.Result.{accepted}
+use Rattle.record.specs.declared.Refusal.{Refusal}
+use Rattle.record.specs.declared.Reading.{Reading}
+use Rattle.record.specs.Result.{Result, accepted, refused}
 use Rattle.record.specs.Layout.{encodedRules, encodedEnd, encodedProgram, keeps}
-use Rattle.record.specs.Reading.{rulesFrom, parsed}
+use Rattle.record.specs.Reading.{rulesFrom, parsed, readingOf}
 use Rattle.record.proofs.Laws.Result.{refuse-if-accepted, refuse-if-false}
 use Rattle.record.proofs.Laws.Layout.{rules-below-length}
 use Rattle.record.proofs.Laws.Sound.{rules-sound}
 use Rattle.record.proofs.Laws.Complete.{rules-complete}
+
+-- the program that reading counted
+pub read-rules : (q : Result Program) (k : ℕ) → readingOf q ≡ Reading.Rules k → (p : Program) × (q ≡ accepted p) × (length p ≡ k)
+unfolding readingOf
+read-rules (accepted p) k e = let n : length p ≡ k = cc in (p, refl, n)
+read-rules (refused x) k e = let z : _≡_ {A = ℕ} 0 1 = cc in absurd (omega arith)
+
+pub read-refused : (q : Result Program) (x : Refusal) → readingOf q ≡ Reading.Refused x → q ≡ refused x
+unfolding readingOf
+read-refused (accepted p) x e = let z : _≡_ {A = ℕ} 0 1 = cc in absurd (omega arith)
+read-refused (refused y) x e = let q : y ≡ x = cc in ap refused q
 
 module _ (F : Limits) where
   -- what is read is the encoding of a program within the limits
   pub parsed-sound : (b : List ℕ) (p : Program) → Bytes b → parsed F b ≡ accepted p → (b ≡ encodedProgram p) × T (keeps F p)
   unfolding parsed encodedProgram keeps keepsRules
   parsed-sound b p bytes e =
-      let q = refuse-if-accepted (ltb (F .length) (length b)) _ _ p e in
+      let q = refuse-if-accepted _ _ _ p e in
       let w = rules-sound F (length b + 1) b 0 0 p bytes (omega arith) (q .1) in
       let same = w .bytes ∙ ap (λ (n : ℕ). encodedRules p ++ encodedEnd n) (zero-add (length p)) in
       let short = subst (λ (bs : List ℕ). length bs ≤ F .length) same (ltb-false (F .length) (length b) (q .0)) in (
@@ -46,7 +60,7 @@ module _ (F : Limits) where
   parsed-complete p k =
       let rules = first (keepsRules F p) (leb (length (encodedProgram p)) (F .length)) k in
       let short = leb→le (length (encodedProgram p)) (F .length) (second (keepsRules F p) (leb (length (encodedProgram p)) (F .length)) k) in
-      refuse-if-false (ltb (F .length) (length (encodedProgram p))) _ _ (le-ltb (F .length) (length (encodedProgram p)) short)
+      refuse-if-false _ _ _ (le-ltb (F .length) (length (encodedProgram p)) short)
       ∙ ap (λ (n : ℕ). rulesFrom F (length (encodedProgram p) + 1) (encodedRules p ++ encodedEnd n) 0 0) (sym (zero-add (length p)))
       ∙ rules-complete F (length (encodedProgram p) + 1) p 0 0 (keeps-each F p rules) (omega (arith, keeps-count F p rules)) (omega (arith, rules-below-length p))
 

@@ -305,7 +305,7 @@ module _ (F : Limits) where
       let h = getD t 4 0 in
       let b = getD t 5 0 in
       let c = getD t 6 0 in
-      let q1 = refuse-if-accepted (ltb (length t) (7 + 5 * (h + b + c))) _ _ e q in
+      let q1 = refuse-if-accepted _ _ _ e q in
       let q2 = and-then-accepted (literalsAt F t 7 (h + b + c)) _ e (q1 .1) in
       let q3 = and-then-accepted (ruleOf d (numberAt t 2) h b (q2 .0)) _ e (q2 .2) in
       let fits = ltb-false (length t) (7 + 5 * (h + b + c)) (q1 .0) in
@@ -330,10 +330,10 @@ module _ (F : Limits) where
   rule-sound : (d : Bool) (n : ℕ) (t : List ℕ) → Bytes t → MarkIs F t d → (e : Entry) → ruleAt F d n t ≡ accepted e → EntryRule F n t e
   unfolding ruleAt
   rule-sound d n t bytes m e q =
-      let q1 = refuse-if-accepted (ltb (length t) 7) _ _ e q in
-      let q2 = refuse-if-accepted (leb (F .rules) n) _ _ e (q1 .1) in
-      let q3 = refuse-if-accepted (not (tagRight F d (numberAt t 2))) _ _ e (q2 .1) in
-      let q4 = refuse-if-accepted (not (keepsCounts F (getD t 4 0) (getD t 5 0) (getD t 6 0))) _ _ e (q3 .1) in
+      let q1 = refuse-if-accepted _ _ _ e q in
+      let q2 = refuse-if-accepted _ _ _ e (q1 .1) in
+      let q3 = refuse-if-accepted _ _ _ e (q2 .1) in
+      let q4 = refuse-if-accepted _ _ _ e (q3 .1) in
       body-sound d n t bytes m (ltb-false (length t) 7 (q1 .0)) (leb-false (F .rules) n (q2 .0)) (passes (tagRight F d (numberAt t 2)) (q3 .0))
       (passes (keepsCounts F (getD t 4 0) (getD t 5 0) (getD t 6 0)) (q4 .0)) e (q4 .1)
 
@@ -341,8 +341,8 @@ module _ (F : Limits) where
 end-sound : (n : ℕ) (t : List ℕ) → Bytes t → T (marked 0x45 t) → (e : Entry) → endAt n t ≡ accepted e → (end ≡ e) × (t ≡ encodedEnd n)
 unfolding endAt encodedEnd marked
 end-sound n t bytes m e q =
-    let q1 = refuse-if-accepted (ltb (length t) 4) _ _ e q in
-    let q2 = refuse-if-accepted (not (eqb (numberAt t 2) n && eqb (length t) 4)) _ _ e (q1 .1) in
+    let q1 = refuse-if-accepted _ _ _ e q in
+    let q2 = refuse-if-accepted _ _ _ e (q1 .1) in
     let w = passes (eqb (numberAt t 2) n && eqb (length t) 4) (q2 .0) in
     let number-is = eqb→eq (numberAt t 2) n (first (eqb (numberAt t 2) n) (eqb (length t) 4) w) in
     let four = eqb→eq (length t) 4 (second (eqb (numberAt t 2) n) (eqb (length t) 4) w) in
@@ -378,7 +378,7 @@ program-cons F n t r size p here rest =
 module _ (F : Limits) where
   pub record-sound : (n : ℕ) (t : List ℕ) → Bytes t → (e : Entry) → recordAt F n t ≡ accepted e → EntryRule F n t e ⊎ ((end ≡ e) × (t ≡ encodedEnd n))
   unfolding recordAt markedRecord
-  record-sound n t bytes e q = go (markAt F t) refl (refuse-if-accepted (ltb (length t) 2) _ _ e q .1)
+  record-sound n t bytes e q = go (markAt F t) refl (refuse-if-accepted _ _ _ e q .1)
     where
       go : (m : Mark) → markAt F t ≡ m → markedRecord F m n t ≡ accepted e → EntryRule F n t e ⊎ ((end ≡ e) × (t ≡ encodedEnd n))
       go (RuleMark d) w f = inl (rule-sound F d n t bytes (mark-rule F t d w) e f)

@@ -22,8 +22,7 @@ use Rattle.record.specs.Refusal.{refusal}
 use Rattle.record.specs.Result.{accepted}
 use Rattle.record.specs.Layout.{encodedProgram, keeps}
 use Rattle.record.specs.Reading.{parsed, reading}
-use Rattle.record.proofs.Laws.Reading.{parsed-sound}
-use Rattle.record.proofs.Laws.Shown.{read-rules, read-refused}
+use Rattle.record.proofs.Laws.Reading.{parsed-sound, read-rules, read-refused}
 use Rattle.litset.specs.declared.SetReading.{SetReading}
 use Rattle.litset.specs.Reading.{parsedSet, setReading}
 use Rattle.litset.proofs.Laws.Reading.{keeps-set-most, parsed-set-sound}

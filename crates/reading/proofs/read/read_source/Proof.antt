@@ -1,0 +1,17 @@
+-- `read::read_source` meets its contract, that of `read::read` at the form's limits.
+-- Assumes nothing.
+use borrow.Author.Needs.{needs}
+use Rattle.reading.proofs.read.read_source.Statement.{statement}
+use Rattle.reading.proofs.read.read_source.Tie as tie
+
+limits-requires : tie.Need-limits-requires
+limits-requires c κs = search needs
+
+read-requires : tie.Need-read-requires
+read-requires c κs = search needs
+
+returns : tie.Need-returns
+returns c = rw (← c .before .limits .ensures) (c .read .ensures)
+
+pub read-source-spec : {M : Type 1} → statement M
+read-source-spec = tie.close (tie.spec limits-requires read-requires returns)

@@ -1,0 +1,57 @@
+-- `read::read_end` meets its contract: at each return the tests that led there say which step of the definition ends it.
+-- Assumes nothing.
+use mathlib.Core.Path.{sym, _∙_}
+use borrow.Author.Needs.{needs}
+use denote.Ref.{now}
+use Rattle.record.proofs.Laws.Header.{end-cut, end-number, end-behind, end-right}
+use Rattle.reading.proofs.step.read_end.Statement.{statement}
+use Rattle.reading.proofs.step.read_end.Tie as tie
+
+refuse-requires : tie.Need-refuse-requires
+refuse-requires c κs = search needs
+
+returns : tie.Need-returns
+returns c =
+    let a = c .before .before .before .args in
+    c .refuse .ensures ∙ sym (end-cut (a .held) (now (a .t)) (c .before .if1 .taken))
+
+get-number-requires : tie.Need-get-number-requires
+get-number-requires c κs = search needs
+
+cast-if2 : tie.Need-cast-if2
+cast-if2 c = search needs
+
+refuse-requires-2 : tie.Need-refuse-requires-2
+refuse-requires-2 c κs = search needs
+
+returns-2 : tie.Need-returns-2
+returns-2 c =
+    let a = c .before .before .before .before .before .args in
+    c .refuse2 .ensures ∙ sym (end-number (a .held) (now (a .t)) (c .before .before .before .if1 .left) (λ e. c .before .if2 .taken (c .before .before .get-number .ensures ∙ e)))
+
+refuse-requires-3 : tie.Need-refuse-requires-3
+refuse-requires-3 c κs = search needs
+
+returns-3 : tie.Need-returns-3
+returns-3 c =
+    let a = c .before .before .before .before .before .before .args in
+    c .refuse3 .ensures ∙ sym (end-behind (a .held) (now (a .t)) (c .before .before .before .before .if1 .left) (c .before .if3 .taken))
+
+returns-4 : tie.Need-returns-4
+returns-4 c =
+    let a = c .before .before .before .before .before .args in
+    sym (end-right (a .held) (now (a .t)) (c .before .before .before .if1 .left) (sym (c .before .before .get-number .ensures) ∙ c .before .if2 .left) (c .if3 .left))
+
+pub read-end-spec : {M : Type 1} → statement M
+read-end-spec =
+    tie.close
+    (tie.spec
+    refuse-requires
+    returns
+    get-number-requires
+    cast-if2
+    refuse-requires-2
+    returns-2
+    refuse-requires-3
+    returns-3
+    returns-4)
