@@ -1,12 +1,12 @@
 // The positions of literals in a set of at most 64: a mask for each literal, and the union of several.
 
 use crate::Positions;
+use fields::field::atom_of;
+use fields::field::kind_of;
+use fields::field::tag_of;
+use fields::order::key_at;
+use fields::order::make_key;
 use literal::Literal;
-use literal::code::atom_of;
-use literal::code::kind_of;
-use literal::code::tag_of;
-use literal::order::key_at;
-use literal::order::make_key;
 use litset::search::place_of;
 use mask::single_at;
 ghost use mathlib.Core.Path.{_≡_};

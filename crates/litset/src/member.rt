@@ -1,12 +1,12 @@
 // Whether literals are in a set that was read: one that is at hand, or those in a slice.
 
 use crate::search::holds;
+use fields::field::atom_of;
+use fields::field::kind_of;
+use fields::field::tag_of;
+use fields::order::key_at;
+use fields::order::make_key;
 use literal::Literal;
-use literal::code::atom_of;
-use literal::code::kind_of;
-use literal::code::tag_of;
-use literal::order::key_at;
-use literal::order::make_key;
 ghost use mathlib.Core.Path.{_≡_};
 ghost use Prim.Native.Nat.{_+_, _*_, _≤_};
 ghost use lib.ListN.{length};

@@ -2,14 +2,14 @@
 
 use emit::options::option_at;
 use emit::options::tag_at;
+use fields::field::atom_of;
+use fields::field::kind_of;
+use fields::field::tag_of;
+use fields::order::make_key;
 use literal::Literal;
 use literal::RuleNo;
 use literal::SignedAtom;
 use literal::Tag;
-use literal::code::atom_of;
-use literal::code::kind_of;
-use literal::code::tag_of;
-use literal::order::make_key;
 use litset::member::is_member;
 use record::show::record_size;
 ghost use mathlib.Core.Path.{_≡_};
