@@ -1,16 +1,27 @@
 // The order of literals, that of their five bytes.
 
+use crate::field::atom_of;
+use crate::field::kind_of;
+use crate::field::tag_of;
 use buffer::get::get_number;
+use literal::Literal;
 ghost use mathlib.Core.Path.{_≡_};
 ghost use Prim.Native.Nat.{_≤_};
 ghost use lib.ListN.{length, take};
-ghost use Rattle.literal.specs.Order.{bytesBefore, keyAt, keyOf};
+ghost use Rattle.literal.specs.Order.{bytesBefore, key, keyAt, keyOf};
 
 // Three fields as one number.
 pub fn make_key(kind: u8, tag: u16, atom: u16) -> u64
     ensures { λ r. ⌜ r ≡ keyOf kind tag atom ⌝ }
 {
     (kind as u64 * 65536 + tag as u64) * 65536 + atom as u64
+}
+
+// The literal's key.
+pub fn key_of(l: Literal) -> u64
+    ensures { λ r. ⌜ r ≡ key l ⌝ }
+{
+    make_key(kind_of(l), tag_of(l), atom_of(l))
 }
 
 // The first five bytes as one number.

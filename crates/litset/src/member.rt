@@ -1,11 +1,8 @@
 // Whether literals are in a set that was read: one that is at hand, or those in a slice.
 
 use crate::search::holds;
-use fields::field::atom_of;
-use fields::field::kind_of;
-use fields::field::tag_of;
 use fields::order::key_at;
-use fields::order::make_key;
+use fields::order::key_of;
 use literal::Literal;
 ghost use mathlib.Core.Path.{_≡_};
 ghost use Prim.Native.Nat.{_+_, _*_, _≤_};
@@ -18,7 +15,7 @@ pub fn is_member(set: &[u8], count: usize, l: Literal) -> bool
     requires { ⌜ Ascends (now set) count ⌝ }
     ensures { λ r. ⌜ r ≡ keySet (now (set .entry)) count l ⌝ }
 {
-    holds(set, count, make_key(kind_of(l), tag_of(l), atom_of(l)))
+    holds(set, count, key_of(l))
 }
 
 // Whether one of `n` literals of a slice, from a place on, is in the set.

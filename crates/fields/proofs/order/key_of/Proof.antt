@@ -1,9 +1,9 @@
--- `marks::key_of` meets its contract: a key is its three fields as one number.
+-- `order::key_of` meets its contract: a key is its three fields as one number.
 -- Assumes nothing.
 use borrow.Author.Needs.{needs}
 use Rattle.literal.specs.Order.{key}
-use Rattle.marks.proofs.marks.key_of.Statement.{statement}
-use Rattle.marks.proofs.marks.key_of.Tie as tie
+use Rattle.fields.proofs.order.key_of.Statement.{statement}
+use Rattle.fields.proofs.order.key_of.Tie as tie
 
 kind-of-requires : tie.Need-kind-of-requires
 kind-of-requires c κs = search needs
