@@ -1,7 +1,7 @@
 // The first literal of a set whose opposite is in the set.
 
 use buffer::get::get_number;
-use literal::order::make_key;
+use fields::order::make_key;
 use litset::search::holds;
 ghost use mathlib.Core.Path.{_≡_};
 ghost use Prim.Native.Nat.{_+_, _*_, _≤_};

@@ -1,12 +1,9 @@
 // The positions of literals in a set of at most 64: a mask for each literal, and the union of several.
 
 use crate::Positions;
+use fields::order::key_at;
+use fields::order::key_of;
 use literal::Literal;
-use literal::code::atom_of;
-use literal::code::kind_of;
-use literal::code::tag_of;
-use literal::order::key_at;
-use literal::order::make_key;
 use litset::search::place_of;
 use mask::single_at;
 ghost use mathlib.Core.Path.{_≡_};
@@ -37,7 +34,7 @@ pub fn mask_literal(set: &[u8], n: usize, l: Literal) -> u64
     requires { ⌜ n ≤ 64 ⌝ }
     ensures { λ r. ⌜ r ≡ keyMask (now (set .entry)) n (key l) ⌝ }
 {
-    mask_of(set, n, make_key(kind_of(l), tag_of(l), atom_of(l)))
+    mask_of(set, n, key_of(l))
 }
 
 // The positions of `count` literals of a slice, from a place on.

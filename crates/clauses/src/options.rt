@@ -4,11 +4,8 @@ use crate::Left;
 use crate::masks::mask_literal;
 use emit::options::option_at;
 use emit::options::tag_at;
+use fields::order::key_of;
 use literal::Literal;
-use literal::code::atom_of;
-use literal::code::kind_of;
-use literal::code::tag_of;
-use literal::order::make_key;
 use litset::search::holds;
 ghost use mathlib.Core.Path.{_≡_};
 ghost use Prim.Native.Nat.{_+_, _*_, _≤_};
@@ -29,7 +26,7 @@ fn is_defeated(t: &[u8], at: usize, set: &[u8], n: usize) -> bool
     let tag = tag_at(t);
     let option = option_at(t, at);
     let mark = Literal::Defeated(tag, option);
-    holds(set, n, make_key(kind_of(mark), tag_of(mark), atom_of(mark)))
+    holds(set, n, key_of(mark))
 }
 
 // The option at a place, where it is left.

@@ -1,9 +1,9 @@
 // The tag and the options in a rule's record.
 
 use buffer::get::get_number;
+use decode::spell::sign;
 use literal::SignedAtom;
 use literal::Tag;
-use literal::code::sign;
 ghost use mathlib.Core.Path.{_≡_};
 ghost use Prim.Native.Nat.{_+_, _≤_};
 ghost use lib.ListN.{length};

@@ -3,10 +3,10 @@
 
 use emit::options::option_at;
 use emit::options::tag_at;
+use fields::encode::encode;
 use literal::Literal;
 use literal::SignedAtom;
 use literal::Tag;
-use literal::code::encode;
 ghost use mathlib.Core.Path.{_≡_};
 ghost use mathlib.Core.List.{map};
 ghost use Prim.Native.Nat.{_+_, _*_, _≤_};

@@ -1,13 +1,8 @@
 // The two forms of programs. Each owns its row of limits.
 
-use crate::Decoded;
 use crate::Limits;
-use crate::code;
 ghost use mathlib.Core.Path.{_≡_};
-ghost use Prim.Native.Nat.{_≤_};
-ghost use lib.ListN.{length};
 ghost use Rattle.literal.specs.Limits.{plain, source};
-ghost use Rattle.literal.specs.Literal.{decoded};
 
 // Programs with defeasible rules.
 pub struct Source {}
@@ -54,14 +49,6 @@ impl Source {
             literals: Self::LITERALS,
             checked: Self::CHECKED,
         }
-    }
-
-    // What the first five bytes of `s` spell in this form.
-    pub fn decode(s: &[u8]) -> Decoded
-        requires { ⌜ 5 ≤ length (now s) ⌝ }
-        ensures { λ r. ⌜ r ≡ decoded source (now (s .entry)) ⌝ }
-    {
-        code::decode(Self::limits(), s)
     }
 }
 
@@ -110,13 +97,5 @@ impl Plain {
             literals: Self::LITERALS,
             checked: Self::CHECKED,
         }
-    }
-
-    // What the first five bytes of `s` spell in this form.
-    pub fn decode(s: &[u8]) -> Decoded
-        requires { ⌜ 5 ≤ length (now s) ⌝ }
-        ensures { λ r. ⌜ r ≡ decoded plain (now (s .entry)) ⌝ }
-    {
-        code::decode(Self::limits(), s)
     }
 }

@@ -1,5 +1,6 @@
-// Literals of defeasible programs, the limits of the two forms, and a literal's five bytes.
-// A literal is five bytes: kind (1), tag (2), atom or rule number (2), the highest byte first.
+// Literals of defeasible programs, and the limits of the two forms.
+// A literal is five bytes: kind (1), tag (2), atom or rule number (2), the highest byte first. `fields` puts them, `decode`
+// reads them; what they are is defined here.
 
 // A tag of defeasible rules, 1 to 200. Rules share tags, so a tag is no rule number.
 pub struct Tag(pub u16);
@@ -55,6 +56,4 @@ pub struct Limits {
     pub checked: usize,
 }
 
-pub mod code;
 pub mod form;
-pub mod order;

@@ -1,12 +1,9 @@
 // Whether literals are in a set that was read: one that is at hand, or those in a slice.
 
 use crate::search::holds;
+use fields::order::key_at;
+use fields::order::key_of;
 use literal::Literal;
-use literal::code::atom_of;
-use literal::code::kind_of;
-use literal::code::tag_of;
-use literal::order::key_at;
-use literal::order::make_key;
 ghost use mathlib.Core.Path.{_≡_};
 ghost use Prim.Native.Nat.{_+_, _*_, _≤_};
 ghost use lib.ListN.{length};
@@ -18,7 +15,7 @@ pub fn is_member(set: &[u8], count: usize, l: Literal) -> bool
     requires { ⌜ Ascends (now set) count ⌝ }
     ensures { λ r. ⌜ r ≡ keySet (now (set .entry)) count l ⌝ }
 {
-    holds(set, count, make_key(kind_of(l), tag_of(l), atom_of(l)))
+    holds(set, count, key_of(l))
 }
 
 // Whether one of `n` literals of a slice, from a place on, is in the set.

@@ -2,9 +2,9 @@
 
 use crate::SetReading;
 use buffer::get::get_number;
+use decode::valid::is_literal;
+use fields::order::key_at;
 use literal::Limits;
-use literal::code::is_literal;
-use literal::order::key_at;
 use record::Reason;
 use record::Refusal;
 use record::Run;

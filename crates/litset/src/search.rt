@@ -1,6 +1,6 @@
 // Membership in a set that was read: a binary search in its slice.
 
-use literal::order::key_at;
+use fields::order::key_at;
 ghost use mathlib.Core.Path.{_≡_};
 ghost use mathlib.Core.Bool.{cond};
 ghost use Prim.Native.Nat.{_+_, _*_, _≤_, _<_};

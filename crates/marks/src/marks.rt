@@ -2,14 +2,11 @@
 
 use emit::options::option_at;
 use emit::options::tag_at;
+use fields::order::key_of;
 use literal::Literal;
 use literal::RuleNo;
 use literal::SignedAtom;
 use literal::Tag;
-use literal::code::atom_of;
-use literal::code::kind_of;
-use literal::code::tag_of;
-use literal::order::make_key;
 use litset::member::is_member;
 use record::size::record_size;
 ghost use mathlib.Core.Path.{_≡_};
@@ -26,13 +23,6 @@ ghost use Rattle.emit.specs.Starts.{Starts};
 ghost use Rattle.litset.specs.Keys.{Ascends, keySet};
 ghost use Rattle.marks.specs.Marks.{derivedMarks, ruleMarks, marksFrom};
 ghost use Rattle.marks.specs.Collect.{Gained, Marking};
-
-// The literal's key.
-fn key_of(l: Literal) -> u64
-    ensures { λ r. ⌜ r ≡ key l ⌝ }
-{
-    make_key(kind_of(l), tag_of(l), atom_of(l))
-}
 
 // Whether the option is in the set and not defeated there.
 fn is_derived(set: &[u8], count: usize, t: Tag, a: SignedAtom) -> bool

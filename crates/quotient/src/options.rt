@@ -2,8 +2,8 @@
 
 use emit::options::option_at;
 use emit::options::tag_at;
+use fields::encode::encode;
 use literal::Literal;
-use literal::code::encode;
 use litset::member::is_member;
 ghost use mathlib.Core.Path.{_≡_};
 ghost use Prim.Native.Nat.{_+_, _*_, _≤_, _<_};

@@ -1,8 +1,9 @@
 // One record of a program, in its own part of the slice: document 01's tests in their order.
 
 use buffer::get::get_number;
+use decode::range::is_in_range;
+use decode::valid::is_literal;
 use literal::Limits;
-use literal::code;
 use record::Mark;
 use record::Reason;
 use record::Refusal;
@@ -51,7 +52,7 @@ fn is_tag_right(lim: Limits, defeasible: bool, tag: u16) -> bool
     ensures { λ r. ⌜ r ≡ tagRight lim defeasible tag ⌝ }
 {
     if defeasible {
-        code::is_in_range(lim.tags, tag)
+        is_in_range(lim.tags, tag)
     } else {
         tag == 0
     }
@@ -78,7 +79,7 @@ fn read_literals(lim: Limits, t: &[u8], count: usize) -> Run
     let mut at: usize = 7;
     let mut left = count;
     while 0 < left {
-        if !code::is_literal(lim, &t[at..]) {
+        if !is_literal(lim, &t[at..]) {
             return Run::Refused(Refusal {
                 reason: Reason::LiteralWrong,
                 place: at,

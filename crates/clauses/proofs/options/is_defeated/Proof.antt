@@ -3,7 +3,6 @@
 use mathlib.Core.Path.{_∙_, ap}
 use borrow.Author.Needs.{needs}
 use denote.Ref.{now}
-use Rattle.literal.specs.Order.{key}
 use Rattle.litset.specs.Keys.{hasKey}
 use Rattle.clauses.proofs.options.is_defeated.Statement.{statement}
 use Rattle.clauses.proofs.options.is_defeated.Tie as tie
@@ -14,27 +13,17 @@ tag-at-requires c κs = search needs
 option-at-requires : tie.Need-option-at-requires
 option-at-requires c κs = search needs
 
-kind-of-requires : tie.Need-kind-of-requires
-kind-of-requires c κs = search needs
-
-tag-of-requires : tie.Need-tag-of-requires
-tag-of-requires c κs = search needs
-
-atom-of-requires : tie.Need-atom-of-requires
-atom-of-requires c κs = search needs
-
-make-key-requires : tie.Need-make-key-requires
-make-key-requires c κs = search needs
+key-of-requires : tie.Need-key-of-requires
+key-of-requires c κs = search needs
 
 holds-requires : tie.Need-holds-requires
 holds-requires c κs = search needs
 
 returns : tie.Need-returns
-unfolding key
 returns c =
-    let a = c .before .before .before .before .before .before .before .before .before .args in
-    rw (← c .before .before .before .before .before .before .tag-at .ensures, ← c .before .before .before .before .before .option-at .ensures, ← c .before .before .before .before .kind-of .ensures, ← c .before .before .before .tag-of .ensures, ← c .before .before .atom-of .ensures)
-    (c .holds .ensures ∙ ap (hasKey (now (a .set)) (a .n)) (c .before .make-key .ensures))
+    let a = c .before .before .before .before .before .before .args in
+    rw (← c .before .before .before .tag-at .ensures, ← c .before .before .option-at .ensures)
+    (c .holds .ensures ∙ ap (hasKey (now (a .set)) (a .n)) (c .before .key-of .ensures))
 
 pub is-defeated-spec : {M : Type 1} → statement M
 is-defeated-spec =
@@ -42,9 +31,6 @@ is-defeated-spec =
     (tie.spec
     tag-at-requires
     option-at-requires
-    kind-of-requires
-    tag-of-requires
-    atom-of-requires
-    make-key-requires
+    key-of-requires
     holds-requires
     returns)
