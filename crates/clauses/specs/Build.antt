@@ -20,7 +20,7 @@ use Rattle.record.specs.Result.{accepted}
 use Rattle.record.specs.Layout.{encodedProgram}
 use Rattle.litset.specs.Layout.{encodedSet}
 use Rattle.litset.specs.Reading.{parsedSet}
-use Rattle.search.specs.Picked.{bodiesOf, headsOf}
+use Rattle.narrow.specs.Picked.{bodiesOf, headsOf}
 use Rattle.clauses.specs.declared.Built.{Built}
 use Rattle.clauses.specs.declared.Clause.{Clause}
 

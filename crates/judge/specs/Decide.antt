@@ -15,8 +15,8 @@ use Rattle.semantics.specs.Verdict.{finding}
 use Rattle.record.specs.Layout.{encodedProgram}
 use Rattle.record.specs.Result.{accepted}
 use Rattle.litset.specs.Reading.{parsedSet}
+use Rattle.narrow.specs.Clause.{Smaller}
 use Rattle.search.specs.declared.Found.{Found}
-use Rattle.search.specs.Clause.{Smaller}
 use Rattle.search.specs.Search.{First}
 use Rattle.clauses.specs.Build.{Buildable}
 use Rattle.judge.specs.declared.Verdict.{Verdict}

@@ -1,6 +1,6 @@
 -- A number as a set of positions: position i is in it if the binary digit i, counted from the lowest, is set.
 -- In order: a position is in a mask; parts of a mask; masks apart; what is left of a mask; a mask of one position; a position of a mask, the highest.
--- Not here: what the positions stand for (`search`).
+-- Not here: what the positions stand for (`narrow`).
 -- Assumes nothing.
 use Prim.Native.Nat.{ℕ, zero, suc, _*_, _/_, _%_, _<_}
 use mathlib.Core.Path.{_≡_}

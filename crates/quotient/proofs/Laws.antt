@@ -1,5 +1,3 @@
-pub mod Options
-pub mod Remainder
 pub mod Meaning
 pub mod Program
 pub mod Pass

@@ -1,22 +1,17 @@
 -- What the writers of a quotient speak of: what is left of one rule, as bytes (01, "Quotient").
--- In order: the bytes of a remainder, and their number; the quotient; what is left of a record; limits for which a quotient is made.
+-- In order: the bytes of a remainder, and their number; the quotient; limits for which a quotient is made.
+-- Not here: what is left of a record, by its bytes (`remainder`).
 -- Assumes nothing.
-use Prim.Native.Nat.{ℕ, _+_, _*_, _<_}
+use Prim.Native.Nat.{ℕ, _<_}
 use mathlib.Core.Path.{_≡_}
-use mathlib.Core.Bool.{cond}
-use mathlib.Core.List.{List, [], _∷_, _++_, map}
+use mathlib.Core.List.{List, [], map}
 use mathlib.Core.Option.{Option, none, some}
-use lib.Dec.{eqb}
-use lib.ListN.{length, getD, take, drop}
+use lib.ListN.{length}
 use Rattle.literal.specs.declared.Limits.{Limits}
-use Rattle.literal.specs.declared.Literal.{Literal}
 use Rattle.semantics.specs.Set.{LiteralSet}
 use Rattle.semantics.specs.Rule.{Program, Remainder}
 use Rattle.semantics.specs.Meaning.{quotient}
-use Rattle.record.specs.Layout.{encodedLiterals, encodedRule, encodedProgram}
-use Rattle.litset.specs.Keys.{anyKey}
-use Rattle.emit.specs.Header.{header}
-use Rattle.remains.specs.Left.{leftAt}
+use Rattle.record.specs.Layout.{encodedRule, encodedProgram}
 use Rattle.quotient.specs.Quotient.{remainderRule}
 
 -- the record of what is left of a rule, if anything is
@@ -32,21 +27,6 @@ remainderCount (some q) = 1
 -- the quotient of a program by a set, as a program's bytes
 unfoldable pub quotientOf : Program → LiteralSet → List ℕ
 quotientOf p s = encodedProgram (map remainderRule (quotient p s))
-
--- what is left of the record that starts t where no naf literal is in the set: of a strict rule all but its naf literals
-unfoldable pub strictBytes : List ℕ → List ℕ
-strictBytes t = header (getD t 4 0) (getD t 5 0) 0 ++ take (5 * (getD t 4 0 + getD t 5 0)) (drop 7 t)
-
--- of a defeasible rule the options that are left, if there are any, and its positive literals
-unfoldable pub optionBytes : List ℕ → List Literal → List ℕ
-optionBytes t [] = []
-optionBytes t (l ∷ ls) = header (length (l ∷ ls)) (getD t 5 0) 0 ++ (encodedLiterals (l ∷ ls) ++ take (5 * getD t 5 0) (drop (7 + 5 * getD t 4 0) t))
-
--- what is left of the record that starts t
-unfoldable pub remainderAt : List ℕ → List ℕ → ℕ → List ℕ
-remainderAt t k m =
-    cond (anyKey k m (getD t 6 0) t (7 + 5 * (getD t 4 0 + getD t 5 0))) []
-    (cond (eqb (getD t 0 0) 0x44) (optionBytes t (leftAt t k m 7 (getD t 4 0))) (strictBytes t))
 
 -- limits whose figures fit two bytes each
 pub record Sized (F : Limits) : Type 0 where

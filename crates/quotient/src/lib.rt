@@ -1,6 +1,4 @@
 // The quotient of a program by a set of literals, written as a plain program.
 
-pub mod options;
 pub mod pass;
 pub mod quotient;
-pub mod remainder;

@@ -1,9 +1,9 @@
 // The quotient of a program that was read by a set that was read: measured, and then written, in one pass each.
 
-use crate::remainder::measure_remainder;
-use crate::remainder::write_remainder;
 use emit::records::write_end;
 use record::size::record_size;
+use remainder::remainder::measure_remainder;
+use remainder::remainder::write_remainder;
 ghost use mathlib.Core.Path.{_≡_};
 ghost use mathlib.Core.Bool.{cond};
 ghost use Prim.Native.Nat.{_+_, _*_, _≤_};

@@ -1,15 +1,11 @@
-pub mod Narrow
-pub mod Force
-pub mod Pass
 pub mod Smaller
 pub mod Open
 pub mod First
 pub mod Lower
-pub mod Count
 pub mod Picked
 pub mod Position
 pub mod Union
 pub mod Clause
 pub mod Whole
 pub mod Bridge
-pub mod Build
+pub mod Found

@@ -1,4 +1,1 @@
-pub mod Clause
 pub mod Search
-pub mod Picked
-pub mod Count

@@ -1,37 +1,16 @@
--- What the search keeps and finds: two bounds, any mask with a property, and the first. A mask's positions, read from the
--- highest, are the literals in ascending order, so of two masks the first, absent before present, is the smaller number.
--- In order: masks between two bounds; bounds narrowed, once and until nothing changes; any mask with a property, and the first.
+-- What the search finds: any mask with a property, and the first. A mask's positions, read from the highest, are the literals in
+-- ascending order, so of two masks the first, absent before present, is the smaller number.
+-- In order: any mask with a property, and the first; masks between two bounds with a property; what was found, as a part.
 -- Assumes nothing.
 use Prim.Native.Nat.{ℕ, _≤_}
 use mathlib.Core.Path.{_≡_}
-use mathlib.Core.Bool.{true, false}
-use Rattle.mask.specs.Mask.{Within}
-use Rattle.search.specs.declared.Bounds.{Bounds}
+use mathlib.Core.Bool.{true, false, cond}
+use mathlib.Core.List.{List}
+use mathlib.Core.Option.{Option, none, some}
+use Rattle.literal.specs.declared.Literal.{Literal}
+use Rattle.narrow.specs.Narrow.{Between}
+use Rattle.narrow.specs.Picked.{picked}
 use Rattle.search.specs.declared.Found.{Found}
-
--- x has each position that it must have, and no position but those that it may have
-pub record Between (must may x : ℕ) : Type 0 where
-  pub above : Within must x
-  pub below : Within x may
-
--- the bounds must and may were narrowed to r by nothing but P: no mask between them that has P is lost, and where r is not
--- live there is none
-pub record Kept (P : ℕ → Type 0) (must may : ℕ) (r : Bounds) : Type 0 where
-  pub more : Within must (r .must)
-  pub less : Within (r .may) may
-  pub inside : Within must may → Within (r .must) (r .may)
-  pub keeps : (x : ℕ) → Between must may x → P x → Between (r .must) (r .may) x
-  pub dead : r .live ≡ false → (x : ℕ) → Between must may x → P x → ⊥
-
--- so narrowed, and where one mask was left and nothing changed, it has P
-pub record Narrowed (P : ℕ → Type 0) (must may : ℕ) (r : Bounds) : Type 0 where
-  pub kept : Kept P must may r
-  pub leaf : r .live ≡ true → r .must ≡ must → r .may ≡ may → must ≡ may → P must
-
--- so narrowed until nothing changes: where one mask is left, it has P
-pub record Propagated (P : ℕ → Type 0) (must may : ℕ) (r : Bounds) : Type 0 where
-  pub kept : Kept P must may r
-  pub leaf : r .live ≡ true → r .must ≡ r .may → P (r .must)
 
 -- r is a mask with P, or there is none
 pub record Any (P : ℕ → Type 0) (r : Found) : Type 0 where
@@ -48,3 +27,7 @@ pub record First (P : ℕ → Type 0) (r : Found) : Type 0 where
 pub record Candidate (P : ℕ → Type 0) (must may x : ℕ) : Type 0 where
   pub between : Between must may x
   pub has : P x
+
+-- what a search over the positions of ls found
+unfoldable pub foundIn : List Literal → Found → Option (List Literal)
+foundIn ls r = cond (r .found) (some (picked (r .model) ls)) none

@@ -2,14 +2,14 @@
 // in the order that is fastest; `lower` goes from that to the first.
 
 use crate::Found;
-use crate::narrow::propagate;
-use crate::pick::pick;
 use mask::highest;
+use narrow::narrow::propagate;
+use pick::pick::pick;
 ghost use mathlib.Core.Path.{_≡_};
 ghost use Prim.Native.Nat.{_≤_};
 ghost use lib.ListN.{length};
 ghost use Rattle.mask.specs.Mask.{Within};
-ghost use Rattle.search.specs.Clause.{Model, Smaller};
+ghost use Rattle.narrow.specs.Clause.{Model, Smaller};
 ghost use Rattle.search.specs.Search.{Candidate, Any, First};
 
 // Settles what the clauses force, then tries what they leave open.

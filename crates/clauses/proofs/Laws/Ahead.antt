@@ -20,7 +20,7 @@ use Rattle.record.specs.Code.{recordSize}
 use Rattle.litset.specs.Layout.{encodedSet}
 use Rattle.emit.specs.Starts.{Stands}
 use Rattle.emit.proofs.Laws.Stands.{More, stands-end, stands-more, stands-start}
-use Rattle.search.specs.Picked.{bodiesOf, headsOf}
+use Rattle.narrow.specs.Picked.{bodiesOf, headsOf}
 use Rattle.clauses.specs.declared.Clause.{Clause}
 use Rattle.clauses.specs.Rule.{clauseAt}
 use Rattle.clauses.specs.Build.{isBroken}

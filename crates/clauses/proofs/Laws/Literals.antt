@@ -24,7 +24,7 @@ use Rattle.litset.specs.Keys.{keySet}
 use Rattle.litset.proofs.Laws.Keys.{key-here, keys-behind, fields-fit, same-key, has-key-literals}
 use Rattle.emit.specs.Starts.{Starts}
 use Rattle.emit.proofs.Laws.Fields.{strict-fields, defeasible-fields, literals-behind}
-use Rattle.search.specs.Picked.{maskOf}
+use Rattle.narrow.specs.Picked.{maskOf}
 use Rattle.clauses.specs.Position.{keyMaskFrom, keyMask}
 use Rattle.clauses.specs.Rule.{literalMask, clauseOf, clauseAt}
 use Rattle.clauses.proofs.Laws.Starts.{clause-starts}

@@ -16,9 +16,8 @@ use Rattle.semantics.specs.Rule.{Remainder}
 use Rattle.semantics.specs.Meaning.{withRemainder, holds, satisfied}
 use Rattle.semantics.proofs.Laws.Tests.{along, is-false}
 use Rattle.mask.proofs.Laws.Part.{or-none}
-use Rattle.search.specs.Picked.{maskOf, masksOf, bodiesOf, headsOf}
-use Rattle.search.proofs.Laws.Position.{mask-some, mask-none}
-use Rattle.search.proofs.Laws.Build.{bodies-kept, heads-kept, bodies-left-out, heads-left-out}
+use Rattle.narrow.specs.Picked.{maskOf, masksOf, bodiesOf, headsOf}
+use Rattle.narrow.proofs.Laws.Build.{mask-some, mask-none, bodies-kept, heads-kept, bodies-left-out, heads-left-out}
 use Rattle.clauses.specs.declared.Clause.{Clause}
 use Rattle.clauses.specs.Position.{union}
 use Rattle.clauses.specs.Rule.{noClause, clauseOf}

@@ -15,10 +15,10 @@ use Rattle.semantics.specs.Verdict.{brokenFrom, firstSubset, smallerModel}
 use Rattle.semantics.proofs.Laws.Verdict.{broken-some}
 use Rattle.record.specs.Layout.{encodedProgram}
 use Rattle.litset.specs.Layout.{encodedSet}
+use Rattle.narrow.specs.Clause.{Smaller}
+use Rattle.narrow.specs.Picked.{distinct}
 use Rattle.search.specs.declared.Found.{Found}
-use Rattle.search.specs.Clause.{Smaller}
-use Rattle.search.specs.Search.{First}
-use Rattle.search.specs.Picked.{distinct, foundIn}
+use Rattle.search.specs.Search.{First, foundIn}
 use Rattle.search.proofs.Laws.Bridge.{first-smaller-model}
 use Rattle.clauses.specs.declared.Built.{Built}
 use Rattle.clauses.specs.Build.{Clauses}

@@ -6,8 +6,8 @@ use mathlib.Core.List.{List, []}
 use lib.ListN.{length}
 use Rattle.buffer.specs.Write.{write}
 use Rattle.buffer.proofs.Laws.Write.{write-nil}
+use Rattle.narrow.specs.Clause.{Smaller}
 use Rattle.search.specs.declared.Found.{Found}
-use Rattle.search.specs.Clause.{Smaller}
 use Rattle.search.specs.Search.{First}
 use Rattle.judge.specs.declared.Verdict.{Verdict}
 use Rattle.witness.specs.Witness.{pickedRecord}

@@ -20,8 +20,9 @@ use Rattle.litset.specs.Reading.{parsedSet}
 use Rattle.litset.specs.Keys.{Ascends}
 use Rattle.litset.proofs.Laws.Reading.{keeps-set-ascending, parsed-set-sound, length-parsed-set}
 use Rattle.litset.proofs.Laws.Keys.{literals-lie, set-ascends}
-use Rattle.search.specs.Picked.{picked, foundIn}
-use Rattle.search.proofs.Laws.Build.{found-some, found-none}
+use Rattle.narrow.specs.Picked.{picked}
+use Rattle.search.specs.Search.{foundIn}
+use Rattle.search.proofs.Laws.Found.{found-some, found-none}
 use Rattle.clauses.specs.declared.Built.{Built}
 use Rattle.clauses.specs.Build.{Clauses}
 use Rattle.judge.specs.declared.Verdict.{Verdict}

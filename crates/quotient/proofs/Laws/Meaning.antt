@@ -24,8 +24,9 @@ use Rattle.emit.specs.Starts.{Starts}
 use Rattle.emit.proofs.Laws.Fields.{strict-fields, defeasible-fields, literals-next, literals-before, strict-pieces}
 use Rattle.remains.specs.Left.{leftAt}
 use Rattle.remains.proofs.Laws.Rule.{nafs-met, left-undefeated}
+use Rattle.remainder.specs.Remainder.{strictBytes, optionBytes, remainderAt}
 use Rattle.quotient.specs.Quotient.{remainderRule}
-use Rattle.quotient.specs.Writing.{remainderBytes, strictBytes, optionBytes, remainderAt}
+use Rattle.quotient.specs.Writing.{remainderBytes}
 
 -- a record without naf literals, in pieces
 pieces : (h b : List Literal) → header (length h) (length b) 0 ++ (encodedLiterals h ++ encodedLiterals b) ≡ encodedRule (strict h b [])

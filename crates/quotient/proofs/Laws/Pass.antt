@@ -20,9 +20,10 @@ use Rattle.litset.specs.Keys.{keySet, anyKey}
 use Rattle.emit.specs.Starts.{Stands}
 use Rattle.emit.proofs.Laws.Stands.{stands-open, stands-end, stands-more, stands-start}
 use Rattle.remains.specs.Left.{leftAt}
-use Rattle.quotient.specs.Writing.{remainderBytes, remainderCount, quotientOf, remainderAt, optionBytes}
 use Rattle.remains.proofs.Laws.Left.{left-few}
-use Rattle.quotient.proofs.Laws.Remainder.{remainder-removed, remainder-defeasible, remainder-strict, length-strict-bytes, length-option-bytes, option-bytes-none}
+use Rattle.remainder.specs.Remainder.{remainderAt, optionBytes}
+use Rattle.remainder.proofs.Laws.Remainder.{remainder-removed, remainder-defeasible, remainder-strict, length-strict-bytes, length-option-bytes, option-bytes-none}
+use Rattle.quotient.specs.Writing.{remainderBytes, remainderCount, quotientOf}
 use Rattle.quotient.proofs.Laws.Meaning.{remainder-at}
 use Rattle.quotient.proofs.Laws.Program.{leftBytes, rest, count-bytes, count-few, rest-rule, rest-nil, rest-start, length-rest, length-left-rule, length-left-nil}
 

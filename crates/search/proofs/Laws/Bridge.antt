@@ -18,10 +18,10 @@ use Rattle.semantics.specs.Verdict.{firstSubset, smallerModel}
 use Rattle.semantics.proofs.Laws.Tests.{both, first, second, fails, refuted, all-intro}
 use Rattle.semantics.proofs.Laws.Set.{set-of-mem}
 use Rattle.mask.proofs.Laws.Place.{within-ones, ones-within}
+use Rattle.narrow.specs.Clause.{Holds, Smaller}
+use Rattle.narrow.specs.Picked.{distinct, picked, bodiesOf, headsOf}
 use Rattle.search.specs.declared.Found.{Found}
-use Rattle.search.specs.Clause.{Holds, Smaller}
-use Rattle.search.specs.Search.{First}
-use Rattle.search.specs.Picked.{distinct, picked, foundIn, bodiesOf, headsOf}
+use Rattle.search.specs.Search.{First, foundIn}
 use Rattle.search.proofs.Laws.Picked.{first-picked}
 use Rattle.search.proofs.Laws.Clause.{models-clauses, clauses-models}
 use Rattle.search.proofs.Laws.Whole.{picked-whole, whole-picked}

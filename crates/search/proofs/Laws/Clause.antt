@@ -14,8 +14,8 @@ use Rattle.semantics.specs.Rule.{Remainder}
 use Rattle.semantics.specs.Meaning.{holds, models}
 use Rattle.semantics.proofs.Laws.Tests.{both, first, second, left, right, either, fails, refuted, decide, along, all-mem, all-intro}
 use Rattle.semantics.proofs.Laws.Part.{part-subset}
-use Rattle.search.specs.Clause.{Holds}
-use Rattle.search.specs.Picked.{distinct, picked, masksOf, bodiesOf, headsOf}
+use Rattle.narrow.specs.Clause.{Holds}
+use Rattle.narrow.specs.Picked.{distinct, picked, masksOf, bodiesOf, headsOf}
 use Rattle.search.proofs.Laws.Picked.{picked-part}
 use Rattle.search.proofs.Laws.Union.{all-within, within-all, any-meets, none-apart}
 

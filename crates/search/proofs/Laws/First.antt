@@ -8,10 +8,11 @@ use mathlib.Core.Logic.{_⊎_, inl, inr, ⊎-elim}
 use lib.Bits.{bitOr, bitXor}
 use Rattle.mask.specs.Mask.{Within, Position, Highest}
 use Rattle.mask.proofs.Laws.Part.{within-refl, within-trans, within-le, within-or-left, xor-within}
-use Rattle.search.specs.declared.Bounds.{Bounds}
+use Rattle.narrow.specs.declared.Bounds.{Bounds}
+use Rattle.narrow.specs.Narrow.{Propagated}
+use Rattle.narrow.proofs.Laws.Narrow.{true-not-false}
 use Rattle.search.specs.declared.Found.{Found}
-use Rattle.search.specs.Search.{Propagated, Candidate, Any, First}
-use Rattle.search.proofs.Laws.Narrow.{true-not-false}
+use Rattle.search.specs.Search.{Candidate, Any, First}
 use Rattle.search.proofs.Laws.Open.{open-within, absent-before, absent-or-present}
 
 -- narrower bounds

@@ -9,8 +9,8 @@ use lib.Bits.{bitOr, bitXor, or-disjoint}
 use Rattle.mask.specs.Mask.{Within, Apart, Position, Highest}
 use Rattle.mask.proofs.Laws.Part.{within-trans, within-le, within-or-left, or-within, apart-sym, within-apart, xor-within, xor-apart, within-xor, xor-sum, apart-or-not}
 use Rattle.mask.proofs.Laws.Count.{ones-mono, ones-strict}
-use Rattle.search.specs.Search.{Between}
-use Rattle.search.proofs.Laws.Narrow.{open-count}
+use Rattle.narrow.specs.Narrow.{Between}
+use Rattle.narrow.proofs.Laws.Narrow.{open-count}
 
 -- bounds that differ leave a position open
 pub open-some : (m y : ℕ) → Within m y → (m ≡ y → ⊥) → 0 < bitXor y m

@@ -15,9 +15,9 @@ use Rattle.semantics.specs.Verdict.{firstSubset}
 use Rattle.semantics.proofs.Laws.Part.{Part, nil, absent, present, Before, none-first, some-first}
 use Rattle.mask.specs.Mask.{has}
 use Rattle.mask.proofs.Laws.Place.{has-add-below, has-add-at, has-beyond, mod-suc}
+use Rattle.narrow.specs.Picked.{picked}
 use Rattle.search.specs.declared.Found.{Found}
-use Rattle.search.specs.Search.{First}
-use Rattle.search.specs.Picked.{picked, foundIn}
+use Rattle.search.specs.Search.{First, foundIn}
 
 -- a literal is present or absent, and a part of the rest
 abbrev one-more : {l : Literal} {s ls : List Literal} (b : Bool) → Part s ls → Part (cond b (l ∷ s) s) (l ∷ ls)

@@ -1,7 +1,7 @@
 -- The positions of literals in a list without repeats: a literal is in what a mask picks exactly if its position is in the mask.
 -- Not here: some literals, as a union of positions (`Union`).
 -- Assumes nothing.
-use Prim.Native.Nat.{ℕ, _^_, _<_}
+use Prim.Native.Nat.{ℕ, _^_}
 use native.Mathlib.Omega.{arith}
 use mathlib.Core.Path.{_≡_, refl, sym, subst}
 use mathlib.Core.Bool.{Bool, true, false, cond, not}
@@ -9,7 +9,6 @@ use mathlib.Core.List.{List, [], _∷_}
 use mathlib.Core.Logic.{_⊎_, inl, inr, ⊎-elim}
 use lib.Dec.{T}
 use lib.ListN.{length}
-use lib.Pow.{pow-pos}
 use Rattle.literal.specs.declared.Literal.{Literal}
 use Rattle.semantics.specs.Set.{sameLiteral, setOf}
 use Rattle.semantics.proofs.Laws.Tests.{first, second, left, right, either, fails, decide, along}
@@ -17,7 +16,8 @@ use Rattle.semantics.proofs.Laws.Set.{same-literal-eq}
 use Rattle.semantics.proofs.Laws.Part.{part-subset}
 use Rattle.mask.specs.Mask.{has, Within, Apart}
 use Rattle.mask.proofs.Laws.Place.{pow-within, pow-apart}
-use Rattle.search.specs.Picked.{distinct, picked, maskOf}
+use Rattle.narrow.specs.Picked.{distinct, picked, maskOf}
+use Rattle.narrow.proofs.Laws.Build.{mask-some, mask-none}
 use Rattle.search.proofs.Laws.Picked.{picked-part}
 
 -- a literal is in a list and its mask in x, or neither
@@ -54,27 +54,6 @@ sided x (m ∷ ls) l d t = go (sameLiteral l m) refl (λ u. sided x ls l (second
     go false e ih =
         rest-sided x ls l m n (has x (length ls)) (along e) (maskOf ls l)
         (ih (⊎-elim (λ s. absurd (along e s)) (λ u. u) (either (sameLiteral l m) (setOf ls l) t)))
-
--- a literal of the list has a position, and another none
-pub mask-some : (ls : List Literal) (l : Literal) → T (setOf ls l) → 0 < maskOf ls l
-unfolding maskOf
-mask-some [] l t = absurd t
-mask-some (m ∷ ls) l t = go (sameLiteral l m) (either (sameLiteral l m) (setOf ls l) t) (mask-some ls l)
-  where
-    go : (a : Bool) → T a ⊎ T (setOf ls l) → (T (setOf ls l) → 0 < maskOf ls l) → 0 < cond a (2 ^ length ls) (maskOf ls l)
-    go true s ih = pow-pos (length ls)
-    go false (inl s) ih = absurd s
-    go false (inr s) ih = ih s
-
-pub mask-none : (ls : List Literal) (l : Literal) → (T (setOf ls l) → ⊥) → maskOf ls l ≡ 0
-unfolding maskOf
-mask-none [] l n = refl
-mask-none (m ∷ ls) l n =
-    go (sameLiteral l m) (λ s. n (left (sameLiteral l m) (setOf ls l) s)) (mask-none ls l (λ s. n (right (sameLiteral l m) (setOf ls l) s)))
-  where
-    go : (a : Bool) → (T a → ⊥) → maskOf ls l ≡ 0 → cond a (2 ^ length ls) (maskOf ls l) ≡ 0
-    go true f e = absurd (f tt)
-    go false f e = e
 
 module _ (x : ℕ) (ls : List Literal) (d : T (distinct ls)) where
   crossed : (l : Literal) → T (setOf ls l) → Within (maskOf ls l) x → Apart (maskOf ls l) x → ⊥

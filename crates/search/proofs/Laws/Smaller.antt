@@ -5,8 +5,8 @@ use mathlib.Core.Path.{refl, subst}
 use mathlib.Core.List.{List}
 use Rattle.mask.specs.Mask.{Within}
 use Rattle.mask.proofs.Laws.Part.{within-refl, within-antisym}
+use Rattle.narrow.specs.Clause.{Model, Smaller}
 use Rattle.search.specs.declared.Found.{Found}
-use Rattle.search.specs.Clause.{Model, Smaller}
 use Rattle.search.specs.Search.{Candidate, First}
 
 -- the first mask with a property is the first with one that says the same

@@ -11,7 +11,7 @@ use Rattle.semantics.specs.Set.{any, all, setOf}
 use Rattle.semantics.proofs.Laws.Tests.{both, first, second, left, right, either}
 use Rattle.mask.specs.Mask.{Within, Apart}
 use Rattle.mask.proofs.Laws.Part.{within-trans, within-or-left, within-or-right, or-within, within-apart, or-apart}
-use Rattle.search.specs.Picked.{distinct, picked, maskOf, masksOf}
+use Rattle.narrow.specs.Picked.{distinct, picked, maskOf, masksOf}
 use Rattle.search.proofs.Laws.Position.{present-within, present-meets, within-present, absent-apart}
 
 module _ (x : ℕ) (ls : List Literal) (d : T (distinct ls)) where

@@ -17,7 +17,7 @@ use Rattle.semantics.proofs.Laws.Set.{same-literal-eq, set-of-mem}
 use Rattle.semantics.proofs.Laws.Part.{part-subset}
 use Rattle.mask.specs.Mask.{has}
 use Rattle.mask.proofs.Laws.Place.{mod-suc}
-use Rattle.search.specs.Picked.{distinct, picked}
+use Rattle.narrow.specs.Picked.{distinct, picked}
 use Rattle.search.proofs.Laws.Picked.{picked-part}
 
 -- a mask with all positions picks the whole list

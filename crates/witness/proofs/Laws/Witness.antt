@@ -19,8 +19,8 @@ use Rattle.mask.specs.Mask.{has}
 use Rattle.litset.specs.Layout.{encodedSet}
 use Rattle.litset.specs.Header.{setHeader}
 use Rattle.litset.proofs.Laws.Keys.{keys-behind}
-use Rattle.search.specs.Picked.{picked}
-use Rattle.search.proofs.Laws.Build.{picked-present, picked-absent}
+use Rattle.narrow.specs.Picked.{picked}
+use Rattle.narrow.proofs.Laws.Build.{picked-present, picked-absent}
 use Rattle.buffer.proofs.Laws.Before.{write-before}
 use Rattle.witness.specs.Witness.{pickedOne, pickedBytes, pickedRecord}
 

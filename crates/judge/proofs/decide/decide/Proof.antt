@@ -5,7 +5,7 @@ use mathlib.Core.Path.{subst}
 use borrow.Author.Needs.{needs}
 use borrow.Author.Tests.{not-true, not-false}
 use denote.Ref.{now}
-use Rattle.search.specs.Clause.{Smaller}
+use Rattle.narrow.specs.Clause.{Smaller}
 use Rattle.search.specs.Search.{First}
 use Rattle.judge.proofs.Laws.Decide.{decided-yes, decided-smaller}
 use Rattle.judge.proofs.decide.decide.Statement.{statement}

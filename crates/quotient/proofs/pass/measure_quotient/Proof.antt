@@ -10,7 +10,7 @@ use denote.Ref.{now}
 use Rattle.record.specs.Code.{recordSize}
 use Rattle.record.proofs.Laws.Literals.{part-to-end}
 use Rattle.record.proofs.Laws.Walk.{Passed, passed}
-use Rattle.quotient.specs.Writing.{remainderAt}
+use Rattle.remainder.specs.Remainder.{remainderAt}
 use Rattle.quotient.proofs.Laws.Pass.{remainder-short, Measuring, measuring-start, measuring-open, measuring-more, measuring-next, measuring-end}
 use borrow.Author.Needs.{needs}
 use Rattle.quotient.proofs.pass.measure_quotient.Statement.{statement}

@@ -15,7 +15,8 @@ use Rattle.record.proofs.Laws.Literals.{part-to-end}
 use Rattle.record.proofs.Laws.Walk.{Passed, passed}
 use Rattle.litset.specs.Keys.{keySet}
 use Rattle.emit.proofs.Laws.Stands.{stands-open}
-use Rattle.quotient.specs.Writing.{quotientOf, remainderAt}
+use Rattle.remainder.specs.Remainder.{remainderAt}
+use Rattle.quotient.specs.Writing.{quotientOf}
 use Rattle.quotient.proofs.Laws.Pass.{one-few, Writing, Next, writing-start, writing-more, writing-next, writing-end}
 use borrow.Author.Needs.{needs}
 use Rattle.quotient.proofs.pass.write_quotient.Statement.{statement}

@@ -9,8 +9,10 @@ use borrow.Author.Tests.{not-true, not-false}
 use borrow.Fn.Kinds.{In}
 use borrow.Fn.PlainCycle.{Measures, is, falls, and}
 use denote.Ref.{now}
-use Rattle.search.specs.Clause.{Model}
-use Rattle.search.proofs.Laws.Narrow.{open-count, fewer-open}
+use Rattle.narrow.specs.Clause.{Model}
+use Rattle.narrow.proofs.Laws.Narrow.{open-count, fewer-open}
+use Rattle.narrow.proofs.narrow.propagate.Reads as propagate-reads
+use Rattle.pick.proofs.pick.pick.Reads as pick-reads
 use Rattle.search.proofs.Laws.Open.{open-some, tries-inside, tries-less}
 use Rattle.search.proofs.Laws.First.{any-dead, any-left, any-absent, any-present, first-leaf, first-any}
 use Rattle.search.proofs.find.settle.Reads as settle
@@ -19,8 +21,6 @@ use Rattle.search.proofs.find.+settle+try_open.Lts-settle as settle-lts
 use Rattle.search.proofs.find.try_open.Reads as try-open
 use Rattle.search.proofs.find.try_open.Kinds as try-open-kinds
 use Rattle.search.proofs.find.+settle+try_open.Lts-try_open as try-open-lts
-use Rattle.search.proofs.pick.pick.Reads as pick-reads
-use Rattle.search.proofs.narrow.propagate.Reads as propagate-reads
 use Rattle.search.proofs.find.+settle+try_open.{statement}
 use Rattle.search.proofs.find.+settle+try_open.Tie.{close}
 

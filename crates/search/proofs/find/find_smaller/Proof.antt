@@ -4,7 +4,7 @@
 use borrow.Author.Needs.{needs}
 use borrow.Author.Tests.{not-true, not-false}
 use denote.Ref.{now}
-use Rattle.search.specs.Clause.{Model}
+use Rattle.narrow.specs.Clause.{Model}
 use Rattle.search.specs.Search.{Candidate}
 use Rattle.search.proofs.Laws.First.{first-none}
 use Rattle.search.proofs.Laws.Smaller.{first-smaller}

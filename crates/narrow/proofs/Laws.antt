@@ -1,0 +1,4 @@
+pub mod Narrow
+pub mod Force
+pub mod Pass
+pub mod Build

@@ -1,0 +1,3 @@
+// What a set leaves of one rule's record: measured, and written as a plain rule's record.
+
+pub mod remainder;
