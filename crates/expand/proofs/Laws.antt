@@ -1,4 +1,2 @@
-pub mod Marks
-pub mod Options
 pub mod Rule
 pub mod Sizes

@@ -1,5 +1,3 @@
 // What one rule becomes in a translation: the records of its rules, written into a lent slice.
 
-pub mod marks;
-pub mod options;
 pub mod rules;

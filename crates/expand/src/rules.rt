@@ -1,12 +1,12 @@
 // What one rule becomes: its record stands at the start of a slice, and the records of its translation are written.
 
-use crate::marks::write_marks;
-use crate::options::write_options;
 use emit::copy::copy;
 use emit::records::write_header;
 use fields::encode::encode;
 use literal::Literal;
 use literal::RuleNo;
+use option_rules::marks::write_marks;
+use option_rules::options::write_options;
 ghost use mathlib.Core.Path.{_≡_};
 ghost use mathlib.Core.List.{List};
 ghost use Prim.Native.Nat.{_+_, _*_, _≤_, _<_};

@@ -1,7 +1,6 @@
 // The extension of a source set: the program and the set are read, the marks gathered and sorted, and the record written.
 
 use emit::copy::copy;
-use keys::sort::sort_keys;
 use keys::write::write_keys;
 use literal::Limits;
 use literal::form::Source;
@@ -16,6 +15,7 @@ use record::Reading;
 use record::Reason;
 use record::Refusal;
 use record::Written;
+use sorting::sort::sort_keys;
 ghost use mathlib.Core.Path.{_≡_};
 ghost use mathlib.Core.List.{map};
 ghost use Prim.Native.Nat.{_+_, _*_, _≤_, _<_};
@@ -24,8 +24,9 @@ ghost use Rattle.buffer.specs.Write.{write};
 ghost use Rattle.literal.specs.Order.{key};
 ghost use Rattle.literal.specs.Limits.{source};
 ghost use Rattle.record.specs.Meets.{Meets};
-ghost use Rattle.keys.specs.Keys.{sortedKeys, Sorted};
+ghost use Rattle.keys.specs.Keys.{sortedKeys};
 ghost use Rattle.keys.specs.Bytes.{Fitting};
+ghost use Rattle.sorting.specs.Sort.{Sorted};
 ghost use Rattle.litset.specs.Keys.{Ascends, keySet};
 ghost use Rattle.marks.specs.Marks.{marksFrom};
 ghost use Rattle.marks.specs.Collect.{Marking};

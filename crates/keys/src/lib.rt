@@ -1,4 +1,3 @@
-// Literals as numbers, their keys: sorting them, each once, and writing them as literals.
+// Literals as numbers, their keys, and keys written as literals.
 
-pub mod sort;
 pub mod write;

@@ -22,8 +22,8 @@ use Rattle.emit.specs.Starts.{Starts}
 use Rattle.emit.specs.Options.{tagAt, optionsAt}
 use Rattle.emit.proofs.Laws.Fields.{strict-fields, defeasible-fields, strict-pieces}
 use Rattle.emit.proofs.Laws.Options.{counted, rule-options, rule-tag, rule-body}
-use Rattle.expand.specs.Writing.{markOf}
-use Rattle.expand.proofs.Laws.Marks.{marks}
+use Rattle.option_rules.specs.Marks.{markOf}
+use Rattle.option_rules.proofs.Laws.Marks.{marks}
 
 -- one literal's bytes
 literal-alone : (l : Literal) → encodedLiterals (l ∷ []) ≡ encoded l

@@ -25,9 +25,10 @@ use Rattle.record.specs.Layout.{encodedLiterals, encodedProgram, keeps}
 use Rattle.record.specs.Reading.{parsed}
 use Rattle.record.proofs.Laws.Layout.{encoded-literals-append, length-encoded-literals}
 use Rattle.record.proofs.Laws.Reading.{parsed-sound}
-use Rattle.keys.specs.Keys.{sortedKeys, Sorted}
+use Rattle.keys.specs.Keys.{sortedKeys}
 use Rattle.keys.specs.Bytes.{keyBytes, Fitting}
 use Rattle.keys.proofs.Laws.Bytes.{fitting-sorted}
+use Rattle.sorting.specs.Sort.{Sorted}
 use Rattle.litset.specs.Layout.{encodedSet}
 use Rattle.litset.specs.Reading.{parsedSet}
 use Rattle.litset.specs.Keys.{keySet}

@@ -24,8 +24,9 @@ use Rattle.record.specs.Result.{Result, accepted, refused, andThen}
 use Rattle.record.specs.Reading.{parsed, reading}
 use Rattle.record.specs.Meets.{Meets}
 use Rattle.record.proofs.Laws.Delivered.{meets-refused, meets-short, meets-written}
-use Rattle.keys.specs.Keys.{sortedKeys, Sorted}
+use Rattle.keys.specs.Keys.{sortedKeys}
 use Rattle.keys.specs.Bytes.{Fitting}
+use Rattle.sorting.specs.Sort.{Sorted}
 use Rattle.litset.specs.declared.SetReading.{SetReading}
 use Rattle.litset.specs.Layout.{encodedSet}
 use Rattle.litset.specs.Reading.{parsedSet, setReading}

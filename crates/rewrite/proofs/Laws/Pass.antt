@@ -25,8 +25,8 @@ use Rattle.record.proofs.Laws.Reading.{parsed-sound}
 use Rattle.emit.specs.Starts.{Starts, Stands}
 use Rattle.emit.proofs.Laws.Fields.{naf-count}
 use Rattle.emit.proofs.Laws.Stands.{More, stands-open, stands-end, stands-more, stands-start}
+use Rattle.option_rules.proofs.Laws.Options.{encoded-rules-append}
 use Rattle.expand.specs.Writing.{lengthAt, countAt}
-use Rattle.expand.proofs.Laws.Options.{encoded-rules-append}
 use Rattle.expand.proofs.Laws.Sizes.{told, length-translated}
 use Rattle.rewrite.specs.Pass.{Translatable}
 

@@ -16,8 +16,8 @@ use Rattle.semantics.specs.Translation.{ruleDefeated}
 use Rattle.emit.specs.Header.{header}
 use Rattle.emit.specs.Options.{tagAt, optionsAt}
 use Rattle.emit.proofs.Laws.Options.{length-options-at}
-use Rattle.expand.proofs.Laws.Marks.{marks}
 use Rattle.emit.proofs.Laws.Stores.{length-header}
+use Rattle.option_rules.proofs.Laws.Marks.{marks}
 use Rattle.expand.proofs.Laws.Rule.{all-defeated-written}
 use Rattle.expand.proofs.rules.write_all_defeated.Statement.{statement}
 use Rattle.expand.proofs.rules.write_all_defeated.Tie as tie

@@ -14,8 +14,8 @@ use Rattle.literal.specs.Literal.{encoded}
 use Rattle.semantics.specs.Translation.{ruleDefeated}
 use Rattle.emit.specs.Header.{header}
 use Rattle.emit.specs.Options.{tagAt}
-use Rattle.expand.proofs.Laws.Marks.{length-marks, marks}
 use Rattle.emit.proofs.Laws.Stores.{length-header}
+use Rattle.option_rules.proofs.Laws.Marks.{length-marks, marks}
 use Rattle.expand.proofs.Laws.Rule.{choice-written}
 use Rattle.expand.proofs.rules.write_choice.Statement.{statement}
 use Rattle.expand.proofs.rules.write_choice.Tie as tie

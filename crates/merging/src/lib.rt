@@ -1,0 +1,3 @@
+// Two runs of keys as one.
+
+pub mod merge;

@@ -1,0 +1,3 @@
+// Keys sorted in their slice, each kept once.
+
+pub mod sort;
