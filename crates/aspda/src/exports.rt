@@ -1,9 +1,5 @@
 // The exported functions. A slice is a pointer and a length; include/aspda.h has them in C's words.
 
-use crate::word::check_word;
-use crate::word::reading_word;
-use crate::word::shown_word;
-use crate::word::written_word;
 use extend::extend::extend_source;
 use quotient::quotient::quotient_plain;
 use quotient::quotient::quotient_source;
@@ -15,6 +11,10 @@ use showing::show::find_source;
 use translate::translate::translate_source;
 use verdict::proposed::check_plain;
 use verdict::proposed::check_source;
+use word::word::check_word;
+use word::word::reading_word;
+use word::word::shown_word;
+use word::word::written_word;
 ghost use mathlib.Core.Path.{_≡_};
 ghost use Rattle.literal.specs.Limits.{source, plain};
 ghost use Rattle.record.specs.Reading.{reading};
@@ -24,7 +24,7 @@ ghost use Rattle.quotient.specs.Quotient.{quotiented};
 ghost use Rattle.extend.specs.Extend.{extended};
 ghost use Rattle.restrict.specs.Restrict.{restricted};
 ghost use Rattle.verdict.specs.Check.{checked};
-ghost use Rattle.aspda.specs.Words.{readingWord, shownWord, MeetsWord, MeetsVerdict};
+ghost use Rattle.word.specs.Words.{readingWord, shownWord, MeetsWord, MeetsVerdict};
 
 // The number of rules of a source, or the refusal.
 #[no_mangle]

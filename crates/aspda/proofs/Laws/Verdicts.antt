@@ -31,7 +31,7 @@ use Rattle.litset.proofs.Laws.Places.{parsed-set-placed}
 use Rattle.verdict.specs.declared.Check.{Check}
 use Rattle.judge.specs.Verdict.{verdictOf}
 use Rattle.verdict.specs.Check.{found, checkedOf, checked}
-use Rattle.aspda.specs.Words.{ShortVerdict, ShortCheck}
+use Rattle.word.specs.Words.{ShortVerdict, ShortCheck}
 
 -- a part is no longer than its list
 part-short : {s ls : List Literal} → Part s ls → length s ≤ length ls

@@ -32,7 +32,7 @@ use Rattle.litset.proofs.Laws.Places.{parsed-set-placed}
 use Rattle.quotient.specs.Quotient.{quotientProgram, quotientBytes, quotiented}
 use Rattle.extend.specs.Extend.{extensionList, extensionBytes, extended}
 use Rattle.restrict.specs.Restrict.{restrictionList, restrictionBytes, restricted}
-use Rattle.aspda.specs.Words.{ShortReading, ShortWritten, ShortShown}
+use Rattle.word.specs.Words.{ShortReading, ShortWritten, ShortShown}
 
 -- a place within a larger bound
 placed-wider : {A : Type 0} (j k : ℕ) (r : Result A) → j ≤ k → Placed j r → Placed k r

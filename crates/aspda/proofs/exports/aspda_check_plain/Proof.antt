@@ -5,7 +5,7 @@ use mathlib.Core.Path.{_∙_, ap}
 use borrow.Author.Needs.{needs}
 use denote.Ref.{now}
 use Rattle.literal.specs.Limits.{plain}
-use Rattle.aspda.specs.Words.{checkWord}
+use Rattle.word.specs.Words.{checkWord}
 use Rattle.aspda.proofs.Laws.Verdicts.{checked-short}
 use Rattle.aspda.proofs.exports.aspda_check_plain.Statement.{statement}
 use Rattle.aspda.proofs.exports.aspda_check_plain.Tie as tie

@@ -5,7 +5,7 @@ use mathlib.Core.Path.{_∙_, ap}
 use borrow.Author.Needs.{needs}
 use denote.Ref.{now}
 use Rattle.literal.specs.Limits.{plain}
-use Rattle.aspda.specs.Words.{writtenWord}
+use Rattle.word.specs.Words.{writtenWord}
 use Rattle.aspda.proofs.Laws.Words.{quotiented-short}
 use Rattle.aspda.proofs.exports.aspda_quotient_plain.Statement.{statement}
 use Rattle.aspda.proofs.exports.aspda_quotient_plain.Tie as tie

@@ -5,7 +5,7 @@ use mathlib.Core.Path.{_∙_, ap}
 use borrow.Author.Needs.{needs}
 use denote.Ref.{now}
 use Rattle.literal.specs.Limits.{source}
-use Rattle.aspda.specs.Words.{readingWord}
+use Rattle.word.specs.Words.{readingWord}
 use Rattle.aspda.proofs.Laws.Words.{reading-short}
 use Rattle.aspda.proofs.exports.aspda_read_source.Statement.{statement}
 use Rattle.aspda.proofs.exports.aspda_read_source.Tie as tie

@@ -25,7 +25,7 @@ use Rattle.marks.specs.Marks.{derivedMarks, ruleMarks, marksFrom}
 use Rattle.extend.specs.Extend.{inserted, sorted, extensionList, extensionBytes, extended}
 use Rattle.judge.specs.Verdict.{verdictOf, witness}
 use Rattle.verdict.specs.Check.{found, checkedOf, checked}
-use Rattle.aspda.specs.Examples.{Says, m3, m3-literals, m3-answer-sets, examples, AllSay}
+use Rattle.examples.specs.Examples.{Says, m3, m3-literals, m3-answer-sets, examples, AllSay}
 
 exactly-four : T (exactly m3 m3-literals m3-answer-sets)
 unfolding exactly

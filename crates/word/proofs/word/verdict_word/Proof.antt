@@ -3,9 +3,9 @@
 use native.Mathlib.Omega.{arith}
 use mathlib.Core.Path.{sym, ap, subst}
 use borrow.Author.Needs.{needs}
-use Rattle.aspda.specs.Words.{verdictWord, ShortVerdict}
-use Rattle.aspda.proofs.word.verdict_word.Statement.{statement}
-use Rattle.aspda.proofs.word.verdict_word.Tie as tie
+use Rattle.word.specs.Words.{verdictWord, ShortVerdict}
+use Rattle.word.proofs.word.verdict_word.Statement.{statement}
+use Rattle.word.proofs.word.verdict_word.Tie as tie
 
 enum-known-v : tie.Need-enum-known-v
 enum-known-v c = search needs

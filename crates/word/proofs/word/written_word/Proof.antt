@@ -2,9 +2,9 @@
 -- Assumes nothing.
 use mathlib.Core.Path.{sym, _∙_, ap, subst}
 use borrow.Author.Needs.{needs}
-use Rattle.aspda.specs.Words.{writtenWord, ShortWritten}
-use Rattle.aspda.proofs.word.written_word.Statement.{statement}
-use Rattle.aspda.proofs.word.written_word.Tie as tie
+use Rattle.word.specs.Words.{writtenWord, ShortWritten}
+use Rattle.word.proofs.word.written_word.Statement.{statement}
+use Rattle.word.proofs.word.written_word.Tie as tie
 
 enum-known-a : tie.Need-enum-known-a
 enum-known-a c = search needs

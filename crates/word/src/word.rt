@@ -9,7 +9,7 @@ use showing::Extent;
 use showing::Shown;
 use verdict::Check;
 ghost use mathlib.Core.Path.{_≡_};
-ghost use Rattle.aspda.specs.Words.{refusalWord, readingWord, writtenWord, extentWord, shownWord, ShortPlace, ShortExtent, ShortReading, ShortWritten, ShortShown, ShortVerdict, ShortCheck, verdictWord, checkWord};
+ghost use Rattle.word.specs.Words.{refusalWord, readingWord, writtenWord, extentWord, shownWord, ShortPlace, ShortExtent, ShortReading, ShortWritten, ShortShown, ShortVerdict, ShortCheck, verdictWord, checkWord};
 
 pub fn refusal_word(x: Refusal) -> u64
     requires { ⌜ ShortPlace x ⌝ }
