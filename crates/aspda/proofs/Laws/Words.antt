@@ -1,29 +1,24 @@
 -- The words have room for what the forms' limits allow. Assumes nothing.
 use Prim.Native.Nat.{ℕ, _+_, _*_, _≤_, _<_}
 use native.Mathlib.Omega.{arith}
-use mathlib.Core.Path.{_≡_, sym, ap}
-use mathlib.Core.Bool.{Bool, true, false}
+use mathlib.Core.Path.{_≡_, sym}
 use mathlib.Core.List.{List}
-use lib.Dec.{ltb}
 use lib.ListN.{length}
 use Rattle.buffer.specs.Bytes.{Bytes}
-use Rattle.buffer.specs.Write.{write}
 use Rattle.literal.specs.declared.Limits.{Limits}
 use Rattle.literal.specs.declared.Literal.{Literal}
 use Rattle.semantics.specs.Rule.{Program}
 use Rattle.semantics.specs.Translation.{translation}
-use Rattle.record.specs.declared.Reason.the-variants.{OutputShort}
-use Rattle.record.specs.declared.Refusal.{Refusal}
 use Rattle.record.specs.declared.Written.{Written}
 use Rattle.record.specs.declared.Reading.{Reading}
 use Rattle.showing.specs.declared.Shown.{Shown}
-use Rattle.record.specs.Refusal.{refusal}
-use Rattle.record.specs.Result.{Result, accepted, refused, andThen, Outcome, delivered}
+use Rattle.record.specs.Result.{Result, accepted, refused, andThen, delivered}
 use Rattle.record.specs.Layout.{encodedProgram}
 use Rattle.record.specs.Reading.{parsed, reading}
 use Rattle.showing.specs.Show.{shown}
 use Rattle.record.proofs.Laws.Places.{Placed, and-then-placed}
 use Rattle.record.proofs.Laws.Bounds.{parsed-placed, reading-place}
+use Rattle.record.proofs.Laws.Delivered.{delivered-place}
 use Rattle.showing.proofs.Laws.Bounds.{shown-place, shown-end}
 use Rattle.translate.specs.Translate.{translatedBytes, translated}
 use Rattle.litset.specs.Layout.{encodedSet}
@@ -51,21 +46,8 @@ module _ (F : Limits) (small : F .length < 2147483648) (s : List ℕ) where
 
   -- an operation that writes a result, or refuses as its parts do
   pub delivered-short : (r : Result (List ℕ)) (out : List ℕ) → Placed (F .length) r → (a : Written) → a ≡ delivered r out .answer → ShortWritten a
-  unfolding delivered
   delivered-short r out placed (Written.Length n) e = tt
-  delivered-short (refused y) out placed (Written.Refused x) e = let same : x ≡ y = cc in omega (arith, ap (λ (v : Refusal). v .place) same)
-  delivered-short (accepted bs) out placed (Written.Refused x) e = go (ltb (length out) (length bs)) e
-    where
-      chosen : Bool → Outcome
-      chosen b =
-          elim b [
-            | true ↦ record { answer = Written.Refused (refusal OutputShort 0); buffer = out }
-            | false ↦ record { answer = Written.Length (length bs); buffer = write out 0 bs }
-          ]
-
-      go : (b : Bool) → Written.Refused x ≡ chosen b .answer → ShortWritten (Written.Refused x)
-      go true f = let same : x ≡ refusal OutputShort 0 = cc in omega (arith, ap (λ (v : Refusal). v .place) same)
-      go false f = let z : _≡_ {A = ℕ} 0 1 = cc in absurd (omega arith)
+  delivered-short r out placed (Written.Refused x) e = omega (arith, delivered-place (F .length) r out placed x (sym e))
 
   pub translated-short : (out : List ℕ) (a : Written) → a ≡ translated F s out .answer → ShortWritten a
   unfolding translated translatedBytes

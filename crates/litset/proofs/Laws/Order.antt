@@ -23,6 +23,7 @@ use Rattle.record.specs.declared.Reason.the-variants.{MemberWrong}
 use Rattle.record.specs.Refusal.{refusal}
 use Rattle.record.specs.Result.{Result, accepted, refused, andThen}
 use Rattle.record.specs.Code.{runOf}
+use Rattle.record.proofs.Laws.Literals.{run-and-then}
 use Rattle.litset.specs.Reading.{membersAt}
 use Rattle.litset.specs.Code.{membersAbove}
 use Rattle.litset.proofs.Laws.Members.{above-right, above-wrong, above-low}
@@ -69,11 +70,6 @@ module _ (F : Limits) where
         → membersAt F s at last (suc n) ≡ andThen (membersAt F s (at + 5) (take 5 (drop at s)) n) (λ ls. accepted (l ∷ ls))
     unfolding membersAt step
     members-right l e b = ap (λ d. step d (bytesBefore last (take 5 (drop at s)))) e ∙ ap (λ x. step (Valid l) x) b
-
-  run-and-then : (r : Result (List Literal)) (l : Literal) → runOf (andThen r (λ ls. accepted (l ∷ ls))) ≡ runOf r
-  unfolding runOf andThen
-  run-and-then (accepted ls) l = refl
-  run-and-then (refused x) l = refl
 
   -- the reader's way through n literals
   pub above-members : (s : List ℕ) → Bytes s → (n at : ℕ) (last : List ℕ) (k : ℕ) → Alike F last k → at + 5 * n ≤ length s

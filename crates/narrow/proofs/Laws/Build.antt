@@ -1,22 +1,21 @@
 -- How code builds the masks and clauses of a list's literals, and what a mask picks, one literal or one rule at a time.
 -- In order: lists without repeats; a literal's position; clauses; what is picked.
 -- Assumes nothing.
-use Prim.Native.Nat.{ℕ, zero, suc, _-_, _^_, _<_}
-use native.Mathlib.Nat.{le-of-suc-le-suc, not-suc-le-zero}
+use Prim.Native.Nat.{ℕ, _^_, _<_}
 use native.Mathlib.Omega.{arith}
-use mathlib.Core.Path.{_≡_, refl, sym, ap, subst, _∙_}
+use mathlib.Core.Path.{_≡_, refl}
 use mathlib.Core.Bool.{Bool, true, false, cond, not}
 use mathlib.Core.List.{List, [], _∷_, List·Memᴰ}
 use mathlib.Core.Logic.{_⊎_, inl, inr}
 use lib.Dec.{T, ltb→lt}
-use lib.ListN.{length, getD}
+use lib.ListN.{length}
 use lib.Pow.{pow-pos}
 use Rattle.literal.specs.declared.Literal.{Literal}
 use Rattle.literal.specs.Order.{key, before}
 use Rattle.semantics.specs.Set.{all, sameLiteral, setOf}
 use Rattle.semantics.specs.Rule.{Remainder}
-use Rattle.semantics.proofs.Laws.Tests.{both, first, second, left, right, either, fails, refuted, is-true, is-false}
-use Rattle.semantics.proofs.Laws.Set.{same-literal-eq, same-literal-refl, mem-set-of}
+use Rattle.semantics.proofs.Laws.Tests.{both, left, right, either, refuted, is-true, is-false}
+use Rattle.semantics.proofs.Laws.Set.{mem-set-of}
 use Rattle.mask.specs.Mask.{has}
 use Rattle.narrow.specs.Picked.{distinct, picked, maskOf, masksOf, bodiesOf, headsOf}
 
@@ -46,27 +45,6 @@ mask-none (m ∷ ls) l n =
     go : (a : Bool) → (T a → ⊥) → maskOf ls l ≡ 0 → cond a (2 ^ length ls) (maskOf ls l) ≡ 0
     go true f e = absurd (f tt)
     go false f e = e
-
--- the literal at a place of a list is in it, and its mask is that of its position
-pub at-in : (ls : List Literal) (p : ℕ) (l z : Literal) → p < length ls → getD ls p z ≡ l → T (setOf ls l)
-at-in [] p l z h e = absurd (not-suc-le-zero h)
-at-in (m ∷ ls) zero l z h e = left (sameLiteral l m) (setOf ls l) (subst (λ (k : Literal). T (sameLiteral l k)) (sym e) (same-literal-refl l))
-at-in (m ∷ ls) (suc p) l z h e = right (sameLiteral l m) (setOf ls l) (at-in ls p l z (le-of-suc-le-suc h) e)
-
-pub mask-at : (ls : List Literal) (p : ℕ) (l z : Literal) → T (distinct ls) → p < length ls → getD ls p z ≡ l → maskOf ls l ≡ 2 ^ (length ls - 1 - p)
-unfolding distinct maskOf
-mask-at [] p l z d h e = absurd (not-suc-le-zero h)
-mask-at (m ∷ ls) zero l z d h e =
-    let same = subst (λ (k : Literal). T (sameLiteral l k)) (sym e) (same-literal-refl l) in
-    ap (λ (b : Bool). cond b (2 ^ length ls) (maskOf ls l)) (is-true (sameLiteral l m) same) ∙ ap (λ (k : ℕ). 2 ^ k) (omega arith)
-mask-at (m ∷ ls) (suc p) l z d h e =
-    ap (λ (b : Bool). cond b (2 ^ length ls) (maskOf ls l)) (is-false (sameLiteral l m) other)
-    ∙ mask-at ls p l z (second (not (setOf ls m)) (distinct ls) d) (le-of-suc-le-suc h) e ∙ ap (λ (k : ℕ). 2 ^ k) (omega arith)
-  where
-    other : T (sameLiteral l m) → ⊥
-    other s =
-        fails (setOf ls m) (first (not (setOf ls m)) (distinct ls) d)
-        (subst (λ (k : Literal). T (setOf ls k)) (same-literal-eq l m s) (at-in ls p l z (le-of-suc-le-suc h) e))
 
 -- the clauses of one rule more
 module _ (ls : List Literal) (q : Remainder) (qs : List Remainder) where

@@ -2,8 +2,8 @@
 -- In order: refusals; what is accepted; a program and a set that were read; 9, and what is written. Assumes nothing.
 use Prim.Native.Nat.{ℕ, _*_, _+_, _≤_}
 use native.Mathlib.Omega.{arith}
-use mathlib.Core.Path.{_≡_, refl, sym, _∙_, ap, subst}
-use mathlib.Core.Bool.{Bool, true, false, not, true≢false}
+use mathlib.Core.Path.{_≡_, sym, _∙_, ap, subst}
+use mathlib.Core.Bool.{Bool, true, false}
 use mathlib.Core.List.{List, map}
 use lib.Dec.{T, leb}
 use borrow.Author.Tests.{leb-true, leb-false}
@@ -120,15 +120,6 @@ module _ (F : Limits) (s k out : List ℕ) where
         written-met h w e long done =
             let exact = ap length same in
             meets-written (quotientBytes F s k) out bytes made (omega (arith, exact, room h (the-program .0) (sound .0))) w e (long (the-program .0) (sound .0) ∙ exact) (done (the-program .0) (sound .0) ∙ ap (write out 0) same)
-
--- a test and its contrary
-pub not-true : (b : Bool) → not b ≡ true → b ≡ false
-not-true true e = absurd (true≢false (sym e))
-not-true false e = refl
-
-pub not-false : (b : Bool) → not b ≡ false → b ≡ true
-not-false true e = refl
-not-false false e = absurd (true≢false e)
 
 -- the same limits have the same outcome
 pub met-same : (F G : Limits) (s k out : List ℕ) {r : Written} {e : List ℕ} → F ≡ G → Meets (quotiented F s k out) r e → Meets (quotiented G s k out) r e

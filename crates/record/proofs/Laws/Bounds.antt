@@ -3,7 +3,6 @@ use Prim.Native.Nat.{ℕ, zero, suc, _+_, _≤_}
 use native.Mathlib.Omega.{arith}
 use mathlib.Core.Path.{_≡_, refl, subst}
 use mathlib.Core.List.{List, [], _∷_}
-use lib.Dec.{ltb}
 use lib.ListN.{length, drop, length-drop}
 use borrow.Author.Tests.{ltb-false}
 use Rattle.literal.specs.declared.Limits.{Limits}
@@ -40,6 +39,11 @@ rules-placed F (suc f) t at n k h = go (recordAt F n t) refl (record-placed F n 
     go : (x : Result Entry) → recordAt F n t ≡ x → Placed (length t) x → Rest → Placed k (after x)
     go (refused y) w p ih = omega arith
     go (accepted e) w p ih = entry e w ih
+
+-- what reading refuses lies in the slice, and within the form's length
+pub parsed-placed-in : (F : Limits) (s : List ℕ) → Placed (length s) (parsed F s)
+unfolding parsed
+parsed-placed-in F s = refuse-if-placed (length s) _ _ _ (omega arith) (λ e. rules-placed F (length s + 1) s 0 0 (length s) (omega arith))
 
 pub parsed-placed : (F : Limits) (s : List ℕ) → Placed (F .length) (parsed F s)
 unfolding parsed

@@ -8,7 +8,7 @@ use mathlib.Core.Path.{_≡_, refl, sym, _∙_, ap, subst}
 use mathlib.Core.Bool.{Bool, true, false, not, _&&_}
 use mathlib.Core.List.{List, [], _∷_, _++_, map, append-assoc}
 use mathlib.Core.Option.{Option, none, some}
-use lib.Dec.{T, leb, ltb, eqb, eqb-refl, leb→le}
+use lib.Dec.{T, leb, eqb, eqb-refl, leb→le}
 use lib.ListN.{length, take, drop, length-append, length-map}
 use lib.Seq.{drop-drop, take-append-seam, drop-append-seam, drop-at}
 use borrow.Author.Tests.{le-ltb, lt-leb}

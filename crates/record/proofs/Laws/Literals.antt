@@ -4,9 +4,8 @@ use native.Mathlib.Omega.{arith}
 use mathlib.Core.Path.{_≡_, refl, _∙_, ap}
 use mathlib.Core.List.{List, _∷_}
 use mathlib.Core.Bool.{true, false}
-use lib.ListN.{length, getD, take, drop, length-drop}
+use lib.ListN.{getD, drop}
 use borrow.Author.Tests.{le-leb, lt-leb}
-use lib.Seq.{take-all}
 use Rattle.literal.specs.declared.Limits.{Limits}
 use Rattle.literal.specs.declared.Literal.{Literal}
 use Rattle.literal.specs.declared.Decoded.{Decoded}
@@ -19,11 +18,8 @@ use Rattle.record.specs.Result.{Result, accepted, refused, andThen}
 use Rattle.record.specs.Reading.{literalsAt}
 use Rattle.record.specs.Code.{runOf, signedKinds}
 
--- a part to the end of a slice
-pub part-to-end : (t : List ℕ) (at : ℕ) → take (length t - at) (drop at t) ≡ drop at t
-part-to-end t at = take-all (length t - at) (drop at t) (omega (arith, length-drop at t))
-
-run-and-then : (r : Result (List Literal)) (l : Literal) → runOf (andThen r (λ ls. accepted (l ∷ ls))) ≡ runOf r
+-- a literal more before a run
+pub run-and-then : (r : Result (List Literal)) (l : Literal) → runOf (andThen r (λ ls. accepted (l ∷ ls))) ≡ runOf r
 unfolding runOf andThen
 run-and-then (accepted ls) l = refl
 run-and-then (refused x) l = refl

@@ -2,10 +2,9 @@
 use Prim.Native.Nat.{ℕ, zero, suc, _+_, _*_, _≤_}
 use native.Mathlib.Omega.{arith}
 use mathlib.Core.Path.{_≡_, refl, subst}
-use mathlib.Core.Bool.{Bool, true, false, not, _&&_}
+use mathlib.Core.Bool.{Bool, true, false}
 use mathlib.Core.List.{List, [], _∷_}
 use mathlib.Core.Option.{Option, none, some}
-use lib.Dec.{leb, ltb, eqb}
 use lib.ListN.{length, getD, take, drop}
 use borrow.Author.Tests.{ltb-false}
 use Rattle.buffer.specs.Bytes.{numberAt}
@@ -16,7 +15,6 @@ use Rattle.literal.specs.declared.Decoded.{Decoded}
 use Rattle.literal.specs.declared.Decoded.the-variants.{Valid, Wrong}
 use Rattle.literal.specs.Literal.{decoded}
 use Rattle.semantics.specs.Rule.{Rule, defeasible}
-use Rattle.semantics.specs.Form.{keepsCounts}
 use Rattle.record.specs.declared.Reason.the-variants.{LiteralWrong, HeadWrong}
 use Rattle.record.specs.declared.Refusal.{Refusal}
 use Rattle.record.specs.declared.Mark.{Mark}
@@ -24,7 +22,7 @@ use Rattle.record.specs.declared.Mark.the-variants.{RuleMark, EndMark, N
 use Rattle.record.specs.declared.Step.{Step}
 use Rattle.record.specs.Refusal.{refusal}
 use Rattle.record.specs.Result.{Result, accepted, refused, andThen, refuseIf}
-use Rattle.record.specs.Reading.{literalsAt, optionsOf, defeasibleRule, ruleOf, tagRight, bodyAt, ruleAt, endAt, markAt, markedRecord, recordAt}
+use Rattle.record.specs.Reading.{literalsAt, optionsOf, defeasibleRule, ruleOf, bodyAt, ruleAt, endAt, markAt, markedRecord, recordAt}
 use Rattle.record.specs.Code.{stepOf}
 use Rattle.record.proofs.Laws.Program.{step-refused}
 

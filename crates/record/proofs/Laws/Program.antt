@@ -5,16 +5,14 @@ use Prim.Native.Nat.{ℕ, suc, _+_, _*_, _-_, _≤_, _<_}
 use native.Mathlib.Omega.{arith}
 use native.Mathlib.Nat.{add-zero, zero-add}
 use mathlib.Core.Path.{_≡_, refl, sym, _∙_, ap}
-use mathlib.Core.Bool.{Bool, not}
+use mathlib.Core.Bool.{Bool}
 use mathlib.Core.List.{List, _∷_}
-use lib.Dec.{leb, ltb}
 use lib.ListN.{length, getD, drop}
 use lib.Seq.{drop-drop}
 use borrow.Author.Tests.{le-ltb, lt-ltb, ltb-false}
 use Rattle.buffer.specs.Bytes.{numberAt}
 use Rattle.literal.specs.declared.Limits.{Limits}
 use Rattle.semantics.specs.Rule.{Rule, Program}
-use Rattle.semantics.specs.Form.{keepsCounts}
 use Rattle.record.specs.declared.Reason.the-variants.{TooLong}
 use Rattle.record.specs.declared.Refusal.{Refusal}
 use Rattle.record.specs.declared.Mark.{Mark}
@@ -23,7 +21,7 @@ use Rattle.record.specs.declared.Step.{Step}
 use Rattle.record.specs.declared.Reading.{Reading}
 use Rattle.record.specs.Refusal.{refusal, shifted}
 use Rattle.record.specs.Result.{Result, accepted, refused, andThen}
-use Rattle.record.specs.Reading.{Entry, rule, end, literalsAt, ruleOf, tagRight, bodyAt, ruleAt, endAt, markAt, markedRecord, recordAt, rulesFrom, parsed, readingOf, reading}
+use Rattle.record.specs.Reading.{Entry, rule, end, literalsAt, ruleOf, bodyAt, ruleAt, endAt, markAt, markedRecord, recordAt, rulesFrom, parsed, readingOf, reading}
 use Rattle.record.specs.Code.{stepOf, countedOn}
 use Rattle.record.proofs.Laws.Result.{refused-accepted, accepted-eq, and-then-accepted, refuse-if-accepted, refuse-if-true, refuse-if-false}
 use Rattle.record.proofs.Laws.Steps.{rules-refused, rules-rule, rules-end}

@@ -9,7 +9,7 @@ use mathlib.Core.Bool.{Bool, true, false, not, _&&_, true≢false}
 use mathlib.Core.Logic.{_⊎_, inl, inr}
 use mathlib.Core.List.{List, [], _∷_, _++_, map, append-assoc}
 use mathlib.Core.Option.{Option, none, some}
-use lib.Dec.{T, leb, ltb, eqb, eqb→eq, le→leb}
+use lib.Dec.{T, leb, eqb, eqb→eq, le→leb}
 use lib.ListN.{length, getD, take, drop, length-take, length-drop, take-append-drop, length-map}
 use lib.Seq.{take-add, drop-drop}
 use borrow.Author.Tests.{ltb-false, leb-false, not-false}

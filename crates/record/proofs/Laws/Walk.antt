@@ -1,15 +1,15 @@
 -- The length of a rule's record, and a record passed by it. Assumes nothing.
-use Prim.Native.Nat.{ℕ, _+_, _-_, _*_, _≤_}
+use Prim.Native.Nat.{ℕ, _+_, _-_, _≤_}
 use native.Mathlib.Omega.{arith}
 use mathlib.Core.Path.{_≡_, _∙_, ap}
 use mathlib.Core.List.{List, _++_}
 use lib.ListN.{length, take, drop, length-map, length-drop}
+use borrow.Rule.Slice.PartAt.{part-to-end}
 use Rattle.literal.specs.declared.Literal.the-variants.{Signed}
 use Rattle.semantics.specs.Rule.{Rule, strict, defeasible}
 use Rattle.semantics.specs.Translation.{recordLength}
 use Rattle.record.specs.Layout.{ruleRecord, encodedRule}
 use Rattle.record.specs.Code.{recordSize}
-use Rattle.record.proofs.Laws.Literals.{part-to-end}
 
 pub size-large : (t : List ℕ) → 7 ≤ recordSize t
 size-large t = omega arith

@@ -20,7 +20,7 @@ use Rattle.showing.specs.declared.Shown.{Shown}
 use Rattle.record.specs.Refusal.{refusal}
 use Rattle.record.specs.Result.{Result, accepted, refused}
 use Rattle.record.specs.Layout.{encodedEnd, encodedProgram}
-use Rattle.record.specs.Reading.{parsed, readingOf, reading}
+use Rattle.record.specs.Reading.{parsed, reading}
 use Rattle.showing.specs.Show.{extentFrom, shown}
 use Rattle.showing.specs.Walk.{walked, Walks}
 use Rattle.record.proofs.Laws.Reading.{parsed-sound, read-rules, read-refused}

@@ -7,7 +7,7 @@ use mathlib.Core.Path.{_≡_, refl, sym, _∙_, ap}
 use lib.ListN.{length, drop}
 use borrow.Author.Needs.{needs}
 use denote.Ref.{now}
-use Rattle.record.proofs.Laws.Literals.{part-to-end}
+use borrow.Rule.Slice.PartAt.{part-to-end}
 use Rattle.clash.specs.Clash.{opposedIn, clashAt}
 use Rattle.clash.proofs.Laws.Clash.{clash-here, clash-next, clash-end}
 use Rattle.clash.proofs.clash.find_clash.Statement.{statement}

@@ -10,9 +10,9 @@ use lib.Bits.{bitOr}
 use lib.ListN.{length, drop}
 use borrow.Author.Needs.{needs}
 use denote.Ref.{now}
+use borrow.Rule.Slice.PartAt.{part-to-end}
 use Rattle.literal.specs.Order.{keyAt}
 use Rattle.semantics.specs.Set.{all}
-use Rattle.record.proofs.Laws.Literals.{part-to-end}
 use Rattle.litset.specs.Keys.{hasKey}
 use Rattle.clauses.specs.Position.{keyMask, keysAt, union}
 use Rattle.clauses.proofs.Laws.Position.{key-mask-empty, key-mask-filled}

@@ -7,8 +7,8 @@ use mathlib.Core.Path.{_≡_, sym, _∙_, ap}
 use lib.ListN.{length, drop}
 use borrow.Author.Needs.{needs}
 use denote.Ref.{now}
+use borrow.Rule.Slice.PartAt.{part-to-end}
 use Rattle.literal.specs.Order.{keyAt}
-use Rattle.record.proofs.Laws.Literals.{part-to-end}
 use Rattle.litset.specs.Keys.{hasKey, anyKey}
 use Rattle.litset.proofs.Laws.Member.{any-key-first, any-key-next, any-key-none}
 use Rattle.litset.proofs.member.is_any_member.Statement.{statement}

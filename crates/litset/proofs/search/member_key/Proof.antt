@@ -4,8 +4,8 @@ use mathlib.Core.Path.{_∙_, ap}
 use borrow.Author.Needs.{needs}
 use denote.Ref.{now}
 use Prim.Native.Nat.{_+_, _*_}
+use borrow.Rule.Slice.PartAt.{part-to-end}
 use Rattle.literal.specs.Order.{keyAt}
-use Rattle.record.proofs.Laws.Literals.{part-to-end}
 use Rattle.litset.proofs.search.member_key.Statement.{statement}
 use Rattle.litset.proofs.search.member_key.Tie as tie
 

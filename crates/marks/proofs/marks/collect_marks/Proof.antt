@@ -8,8 +8,8 @@ use mathlib.Core.List.{map}
 use lib.ListN.{length, getD, length-drop}
 use borrow.Author.Needs.{needs}
 use denote.Ref.{now}
+use borrow.Rule.Slice.PartAt.{part-to-end}
 use Rattle.literal.specs.Order.{key}
-use Rattle.record.proofs.Laws.Literals.{part-to-end}
 use Rattle.record.specs.Code.{recordSize}
 use Rattle.emit.specs.Starts.{Starts}
 use Rattle.litset.specs.Keys.{keySet}

@@ -7,11 +7,11 @@ use mathlib.Core.Path.{_≡_, sym, _∙_, ap}
 use lib.ListN.{length, drop, length-drop}
 use borrow.Author.Needs.{needs}
 use denote.Ref.{now}
+use borrow.Rule.Slice.PartAt.{part-to-end}
 use Rattle.buffer.proofs.Laws.Bytes.{bytes-drop}
 use Rattle.record.specs.Refusal.{shifted}
 use Rattle.record.specs.Reading.{recordAt}
 use Rattle.record.specs.Code.{stepOf}
-use Rattle.record.proofs.Laws.Literals.{part-to-end}
 use Rattle.record.proofs.Laws.Places.{step-place}
 use Rattle.measure.specs.Measure.{measured}
 use Rattle.expand.specs.Writing.{lengthAt}

@@ -7,11 +7,11 @@ use mathlib.Core.Path.{_≡_, refl, _∙_, sym, ap, subst}
 use mathlib.Core.List.{List}
 use lib.ListN.{length, getD}
 use denote.Ref.{now}
+use borrow.Rule.Slice.PartAt.{part-to-end}
 use Rattle.buffer.specs.Write.{write}
 use Rattle.semantics.specs.Rule.{Program}
 use Rattle.record.specs.Layout.{encodedEnd, encodedProgram}
 use Rattle.record.specs.Code.{recordSize}
-use Rattle.record.proofs.Laws.Literals.{part-to-end}
 use Rattle.record.proofs.Laws.Walk.{Passed, passed}
 use Rattle.litset.specs.Keys.{keySet}
 use Rattle.emit.proofs.Laws.Stands.{stands-open}

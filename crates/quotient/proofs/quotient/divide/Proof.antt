@@ -2,8 +2,9 @@
 -- Assumes nothing.
 use mathlib.Core.Path.{sym, _∙_}
 use denote.Ref.{now}
+use borrow.Author.Tests.{not-true, not-false}
 use Rattle.buffer.specs.Bytes.{Bytes}
-use Rattle.quotient.proofs.Laws.Quotient.{program-met, set-met, holds, long, ascends, short-met, room, written-met, not-true, not-false}
+use Rattle.quotient.proofs.Laws.Quotient.{program-met, set-met, holds, long, ascends, short-met, room, written-met}
 use borrow.Author.Needs.{needs}
 use Rattle.quotient.proofs.quotient.divide.Statement.{statement}
 use Rattle.quotient.proofs.quotient.divide.Tie as tie

@@ -7,10 +7,10 @@ use mathlib.Core.Path.{_≡_, sym, _∙_, ap}
 use borrow.Author.Needs.{needs}
 use denote.Ref.{now}
 use lib.ListN.{length, drop, length-drop}
+use borrow.Rule.Slice.PartAt.{part-to-end}
 use Rattle.record.specs.Reading.{recordAt, reading}
 use Rattle.record.specs.Code.{stepOf}
 use Rattle.record.specs.Refusal.{shifted}
-use Rattle.record.proofs.Laws.Literals.{part-to-end}
 use Rattle.record.proofs.Laws.Program.{left, reading-long, reading-left, left-rule, left-end, left-refused, step-size}
 use Rattle.record.proofs.Laws.Places.{step-place}
 use Rattle.reading.proofs.read.read.Statement.{statement}

@@ -7,11 +7,12 @@ use borrow.Author.Needs.{needs}
 use borrow.Author.Tests.{not-true, not-false}
 use denote.Ref.{now}
 use lib.ListN.{length}
+use borrow.Rule.Slice.PartAt.{part-to-end}
 use Rattle.literal.specs.Literal.{decoded, isValid}
 use Rattle.literal.proofs.Laws.Literal.{valid-some, valid-none}
 use Rattle.record.specs.Reading.{literalsAt}
 use Rattle.record.specs.Code.{runOf}
-use Rattle.record.proofs.Laws.Literals.{part-to-end, run-valid, run-wrong, run-nil}
+use Rattle.record.proofs.Laws.Literals.{run-valid, run-wrong, run-nil}
 use Rattle.reading.proofs.step.read_literals.Statement.{statement}
 use Rattle.reading.proofs.step.read_literals.Tie as tie
 

@@ -8,10 +8,10 @@ use mathlib.Core.Path.{subst, _≡_, refl, sym, _∙_, ap}
 use lib.ListN.{length, getD, length-drop}
 use borrow.Author.Needs.{needs}
 use denote.Ref.{now}
+use borrow.Rule.Slice.PartAt.{part-to-end}
 use Rattle.buffer.specs.Write.{write}
 use Rattle.semantics.specs.Translation.{translation}
 use Rattle.record.specs.Layout.{encodedProgram}
-use Rattle.record.proofs.Laws.Literals.{part-to-end}
 use Rattle.record.specs.Code.{recordSize}
 use Rattle.emit.specs.Starts.{Starts}
 use Rattle.expand.specs.Writing.{lengthAt, countAt}
