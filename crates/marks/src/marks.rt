@@ -17,7 +17,7 @@ ghost use lib.ListN.{length, getD};
 ghost use Rattle.literal.specs.Order.{key};
 ghost use Rattle.semantics.specs.Set.{all};
 ghost use Rattle.semantics.specs.Rule.{Rule};
-ghost use Rattle.record.specs.Code.{recordSize};
+ghost use Rattle.record.specs.Size.{recordSize};
 ghost use Rattle.emit.specs.Options.{tagAt, optionsAt};
 ghost use Rattle.emit.specs.Starts.{Starts};
 ghost use Rattle.litset.specs.Keys.{Ascends, keySet};

@@ -7,7 +7,7 @@ pub mod Body
 pub mod Header
 pub mod Program
 pub mod Places
-pub mod Walk
+pub mod Size
 pub mod Sound
 pub mod Complete
 pub mod Reading

@@ -1,8 +1,8 @@
 -- What the reader's functions answer, from what the definitions of `Reading` give: a function keeps a rule's length
 -- where the definition gives the rule.
--- In order: a run of literals; the kinds of head literals; one record; rules counted on; the length of a rule's record.
+-- In order: a run of literals; the kinds of head literals; one record; rules counted on.
 -- Assumes nothing.
-use Prim.Native.Nat.{ℕ, zero, suc, _+_, _*_}
+use Prim.Native.Nat.{ℕ, zero, suc, _+_}
 use mathlib.Core.Bool.{Bool, true, _&&_}
 use mathlib.Core.List.{List}
 use lib.Dec.{leb}
@@ -35,7 +35,3 @@ stepOf (refused x) = Step.Refused x
 unfoldable pub countedOn : ℕ → Result Program → Reading
 countedOn n (accepted p) = Reading.Rules (n + length p)
 countedOn n (refused x) = Reading.Refused x
-
--- the length of the rule's record that starts a part, by its counts
-abbrev pub recordSize : List ℕ → ℕ
-recordSize t = 7 + 5 * (getD t 4 0 + getD t 5 0 + getD t 6 0)

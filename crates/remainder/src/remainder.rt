@@ -9,7 +9,7 @@ ghost use mathlib.Core.Path.{_≡_};
 ghost use Prim.Native.Nat.{_+_, _*_, _≤_};
 ghost use lib.ListN.{length, getD};
 ghost use Rattle.buffer.specs.Write.{write};
-ghost use Rattle.record.specs.Code.{recordSize};
+ghost use Rattle.record.specs.Size.{recordSize};
 ghost use Rattle.litset.specs.Keys.{Ascends, anyKey};
 ghost use Rattle.remains.specs.Left.{leftAt};
 ghost use Rattle.remainder.specs.Remainder.{strictBytes, optionBytes, remainderAt};

@@ -6,7 +6,7 @@ use lib.ListN.{length, drop}
 use Rattle.record.specs.declared.Reading.{Reading}
 use Rattle.record.specs.declared.Reason.the-variants.{NoSuchRule}
 use Rattle.record.specs.Refusal.{refusal}
-use Rattle.record.specs.Code.{recordSize}
+use Rattle.record.specs.Size.{recordSize}
 use Rattle.showing.specs.declared.Extent.{Extent}
 use Rattle.showing.specs.declared.Shown.{Shown}
 

@@ -16,7 +16,7 @@ use Rattle.semantics.specs.Rule.{Program}
 use Rattle.semantics.specs.Meaning.{remainder, quotient}
 use Rattle.semantics.specs.Verdict.{brokenFrom}
 use Rattle.record.specs.Layout.{encodedLiterals, encodedProgram}
-use Rattle.record.specs.Code.{recordSize}
+use Rattle.record.specs.Size.{recordSize}
 use Rattle.litset.specs.Layout.{encodedSet}
 use Rattle.emit.specs.Starts.{Stands}
 use Rattle.emit.proofs.Laws.Stands.{More, stands-end, stands-more, stands-start}

@@ -10,7 +10,7 @@ use Rattle.buffer.specs.Bytes.{Bytes}
 use Rattle.literal.specs.declared.Literal.{Literal}
 use Rattle.semantics.specs.Rule.{Program}
 use Rattle.record.specs.Layout.{encodedProgram}
-use Rattle.record.specs.Code.{recordSize}
+use Rattle.record.specs.Size.{recordSize}
 use Rattle.litset.specs.Layout.{encodedSet}
 use Rattle.litset.specs.Keys.{Ascends}
 use Rattle.litset.proofs.Laws.Reading.{parsed-set-sound}

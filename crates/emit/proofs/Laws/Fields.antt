@@ -20,7 +20,7 @@ use Rattle.semantics.specs.Translation.{recordLength}
 use Rattle.semantics.proofs.Laws.Tests.{second}
 use Rattle.semantics.proofs.Laws.Form.{keeps-counts}
 use Rattle.record.specs.Layout.{encodedLiterals, ruleRecord, encodedRule}
-use Rattle.record.specs.Code.{recordSize}
+use Rattle.record.specs.Size.{recordSize}
 use Rattle.record.proofs.Laws.Layout.{encoded-literals-append, length-encoded-literals}
 use Rattle.emit.specs.Header.{header}
 use Rattle.emit.specs.Starts.{Starts}

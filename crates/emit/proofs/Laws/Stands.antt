@@ -11,7 +11,7 @@ use lib.Seq.{drop-drop, drop-at, getD-drop}
 use Rattle.semantics.specs.Rule.{Rule, strict, defeasible, Program}
 use Rattle.semantics.specs.Translation.{recordLength}
 use Rattle.record.specs.Layout.{encodedRule, encodedRules, encodedEnd, encodedProgram}
-use Rattle.record.specs.Code.{recordSize}
+use Rattle.record.specs.Size.{recordSize}
 use Rattle.record.proofs.Laws.Layout.{length-encoded-rule}
 use Rattle.emit.specs.Starts.{Starts, Stands}
 use Rattle.emit.proofs.Laws.Fields.{strict-fields, defeasible-fields, record-size}

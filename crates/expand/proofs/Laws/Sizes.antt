@@ -11,7 +11,7 @@ use Rattle.semantics.specs.Rule.{Rule, strict, defeasible}
 use Rattle.semantics.specs.Translation.{translatedRule, recordLength, translatedLength, translatedCount}
 use Rattle.semantics.proofs.Laws.Length.{rule-length}
 use Rattle.record.specs.Layout.{encodedRules}
-use Rattle.record.specs.Code.{recordSize}
+use Rattle.record.specs.Size.{recordSize}
 use Rattle.record.proofs.Laws.Layout.{length-encoded-rules}
 use Rattle.emit.specs.Starts.{Starts}
 use Rattle.emit.proofs.Laws.Fields.{strict-fields, defeasible-fields}

@@ -12,7 +12,7 @@ use Rattle.literal.specs.Order.{key}
 use Rattle.semantics.specs.Set.{LiteralSet, all}
 use Rattle.semantics.specs.Rule.{Rule, strict, defeasible, head, Program}
 use Rattle.semantics.proofs.Laws.Tests.{first, second}
-use Rattle.record.specs.Code.{recordSize}
+use Rattle.record.specs.Size.{recordSize}
 use Rattle.emit.specs.Starts.{Starts, Stands}
 use Rattle.emit.proofs.Laws.Fields.{strict-fields, defeasible-fields}
 use Rattle.emit.proofs.Laws.Stands.{More, stands-open, stands-end, stands-more, stands-start}

@@ -15,7 +15,7 @@ use Rattle.literal.specs.declared.Literal.{Literal}
 use Rattle.semantics.specs.Rule.{Program}
 use Rattle.semantics.specs.Meaning.{remainder}
 use Rattle.record.specs.Layout.{encodedEnd, encodedProgram}
-use Rattle.record.specs.Code.{recordSize}
+use Rattle.record.specs.Size.{recordSize}
 use Rattle.litset.specs.Keys.{keySet, anyKey}
 use Rattle.emit.specs.Starts.{Stands}
 use Rattle.emit.proofs.Laws.Stands.{stands-open, stands-end, stands-more, stands-start}

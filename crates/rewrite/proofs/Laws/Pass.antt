@@ -20,7 +20,7 @@ use Rattle.semantics.proofs.Laws.Tests.{first, second}
 use Rattle.semantics.proofs.Laws.Form.{keeps-each}
 use Rattle.semantics.proofs.Laws.Length.{rule-count}
 use Rattle.record.specs.Layout.{encodedRules, encodedEnd, encodedProgram, keeps}
-use Rattle.record.specs.Code.{recordSize}
+use Rattle.record.specs.Size.{recordSize}
 use Rattle.record.proofs.Laws.Reading.{parsed-sound}
 use Rattle.emit.specs.Starts.{Starts, Stands}
 use Rattle.emit.proofs.Laws.Fields.{naf-count}

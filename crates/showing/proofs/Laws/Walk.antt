@@ -9,9 +9,9 @@ use lib.Seq.{drop-drop, drop-at}
 use Rattle.semantics.specs.Rule.{Rule, Program}
 use Rattle.semantics.specs.Translation.{recordLength}
 use Rattle.record.specs.Layout.{encodedRule, encodedRules}
-use Rattle.record.specs.Code.{recordSize}
+use Rattle.record.specs.Size.{recordSize}
 use Rattle.record.proofs.Laws.Layout.{length-encoded-rule}
-use Rattle.record.proofs.Laws.Walk.{size-record}
+use Rattle.record.proofs.Laws.Size.{size-record}
 use Rattle.showing.specs.Show.{extentFrom}
 use Rattle.showing.specs.Walk.{walked, Walks}
 

@@ -10,8 +10,8 @@ use borrow.Author.Needs.{needs}
 use denote.Ref.{now}
 use borrow.Rule.Slice.PartAt.{part-to-end}
 use Rattle.buffer.specs.Bytes.{Bytes}
-use Rattle.record.specs.Code.{recordSize}
-use Rattle.record.proofs.Laws.Walk.{size-large, Passed, passed}
+use Rattle.record.specs.Size.{recordSize}
+use Rattle.record.proofs.Laws.Size.{size-large, Passed, passed}
 use Rattle.clauses.specs.Rule.{clauseAt}
 use Rattle.clauses.proofs.Laws.Pass.{Pass, pass-start, pass-next, built-whole, built-broken, asked-long, asked-ascends, asked-open, asked-fits, asked-room, asked-count}
 use Rattle.clauses.proofs.build.build.Statement.{statement}

@@ -10,7 +10,7 @@ use borrow.Author.Needs.{needs}
 use denote.Ref.{now}
 use borrow.Rule.Slice.PartAt.{part-to-end}
 use Rattle.literal.specs.Order.{key}
-use Rattle.record.specs.Code.{recordSize}
+use Rattle.record.specs.Size.{recordSize}
 use Rattle.emit.specs.Starts.{Starts}
 use Rattle.litset.specs.Keys.{keySet}
 use Rattle.marks.specs.Marks.{marksFrom}

@@ -11,8 +11,8 @@ use borrow.Rule.Slice.PartAt.{part-to-end}
 use Rattle.buffer.specs.Write.{write}
 use Rattle.semantics.specs.Rule.{Program}
 use Rattle.record.specs.Layout.{encodedEnd, encodedProgram}
-use Rattle.record.specs.Code.{recordSize}
-use Rattle.record.proofs.Laws.Walk.{Passed, passed}
+use Rattle.record.specs.Size.{recordSize}
+use Rattle.record.proofs.Laws.Size.{Passed, passed}
 use Rattle.litset.specs.Keys.{keySet}
 use Rattle.emit.proofs.Laws.Stands.{stands-open}
 use Rattle.remainder.specs.Remainder.{remainderAt}
