@@ -1,5 +1,5 @@
 -- The claims, each from laws. Assumes nothing.
-use Prim.Native.Nat.{ℕ, _*_, _≤_}
+use Prim.Native.Nat.{ℕ, _+_, _*_, _≤_}
 use native.Mathlib.Omega.{arith}
 use native.Mathlib.Nat.{zero-add}
 use mathlib.Core.Path.{_≡_, refl, sym, _∙_, ap}
@@ -41,15 +41,19 @@ use Rattle.record.proofs.Laws.Reading.{parsed-sound, parsed-complete, reading-i
 use Rattle.record.proofs.Laws.Result.{accepted-and-then}
 use Rattle.record.proofs.Laws.Delivered.{delivered-fits}
 use Rattle.translate.specs.Translate.{translatedBytes, translated}
-use Rattle.litset.specs.Layout.{keepsSet}
+use Rattle.litset.specs.Layout.{encodedSet, keepsSet}
 use Rattle.litset.specs.Reading.{parsedSet}
-use Rattle.litset.proofs.Laws.Reading.{parsed-set-sound, keeps-set-taken, keeps-set-ascending}
+use Rattle.litset.proofs.Laws.Reading.{parsed-set-sound, set-reading-iff, keeps-set-taken, keeps-set-ascending}
+use Rattle.litset.proofs.Laws.Written.{TwoBytes, set-read-back}
 use Rattle.quotient.specs.Quotient.{quotientProgram, quotientBytes, quotiented}
 use Rattle.quotient.proofs.Laws.Plain.{Within, quotient-read, source-within, plain-within}
 use Rattle.extend.proofs.Laws.Extend.{extension-list, extension-ascending-form}
+use Rattle.extend.specs.Extend.{extensionList, extensionBytes, extended}
+use Rattle.extend.specs.Extending.{most}
 use Rattle.extend.proofs.Laws.Outcome.{extendable-source}
+use Rattle.extend.proofs.Laws.Kept.{extension-keeps}
 use Rattle.extend.proofs.Laws.Added.{extension-marks}
-use Rattle.restrict.specs.Restrict.{restrictionList}
+use Rattle.restrict.specs.Restrict.{restrictionList, restrictionBytes, restricted}
 use Rattle.restrict.proofs.Laws.Restriction.{restriction-joined, restriction-set}
 use Rattle.judge.specs.declared.Verdict.{Verdict}
 use Rattle.judge.specs.declared.Verdict.the-variants.{Yes}
@@ -59,19 +63,31 @@ use Rattle.verdict.specs.Check.{found, Checked, checkedOf, checked}
 use Rattle.aspda.specs.Claims.{Reading, Quotients, Quotient, Extending, Checks, Checking, Translates, Translating}
 
 pub reading : Reading
-reading = record { reads-source = reading-iff source; reads-plain = reading-iff plain }
+reading =
+    record {
+      reads-source = reading-iff source;
+      reads-plain = reading-iff plain;
+      reads-source-set = set-reading-iff source;
+      reads-plain-set = set-reading-iff plain;
+    }
+
+-- of a program and a set that are read, what is made of both is delivered
+made-fits : (F : Limits) (make : Program → List Literal → List ℕ) (b k : List ℕ) (p : Program) (ls : List Literal) → parsed F b ≡ accepted p → parsedSet F (F .literals) k ≡ accepted ls
+    → (out : List ℕ) → length (make p ls) ≤ length out
+    → delivered (andThen (parsed F b) (λ p. andThen (parsedSet F (F .literals) k) (λ ls. accepted (make p ls)))) out ≡ record { answer = Length (length (make p ls)); buffer = write out 0 (make p ls) }
+made-fits F make b k p ls e q out fits =
+    ap (λ (r : Result Program). delivered (andThen r (λ p. andThen (parsedSet F (F .literals) k) (λ ls. accepted (make p ls)))) out) e
+    ∙ ap (λ (r : Result (List ℕ)). delivered r out) (accepted-and-then p (λ p. andThen (parsedSet F (F .literals) k) (λ ls. accepted (make p ls))))
+    ∙ ap (λ (r : Result (List Literal)). delivered (andThen r (λ ls. accepted (make p ls))) out) q
+    ∙ ap (λ (r : Result (List ℕ)). delivered r out) (accepted-and-then ls (λ ls. accepted (make p ls)))
+    ∙ delivered-fits (make p ls) out fits
 
 -- quotients, in a form whose figures are within the plain form's
 quotients : (F : Limits) → Within F plain → Quotients F
 unfolding quotiented quotientBytes
 quotients F w =
     record {
-      writes = λ b k p ls e q out fits.
-          ap (λ (r : Result Program). delivered (andThen r (λ p. andThen (parsedSet F (F .literals) k) (λ ls. accepted (encodedProgram (quotientProgram p ls))))) out) e
-          ∙ ap (λ (r : Result (List ℕ)). delivered r out) (accepted-and-then p (λ p. andThen (parsedSet F (F .literals) k) (λ ls. accepted (encodedProgram (quotientProgram p ls)))))
-          ∙ ap (λ (r : Result (List Literal)). delivered (andThen r (λ ls. accepted (encodedProgram (quotientProgram p ls)))) out) q
-          ∙ ap (λ (r : Result (List ℕ)). delivered r out) (accepted-and-then ls (λ ls. accepted (encodedProgram (quotientProgram p ls))))
-          ∙ delivered-fits (encodedProgram (quotientProgram p ls)) out fits;
+      writes = made-fits F (λ p ls. encodedProgram (quotientProgram p ls));
       reads-back = λ b p ls bytes e. quotient-read F plain w p ls (parsed-sound F b p bytes e .1);
     }
 
@@ -90,20 +106,43 @@ module _ (k : List ℕ) (ls : List Literal) (bytes : Bytes k) (read : parsedSet 
   unfolding source
   set-source = all-intro sourceKind ls (λ l m. takes-source source (omega arith) l (all-mem (takes source) set-taken m))
 
-extend-kept : (b : List ℕ) (p : Program) → Bytes b → parsed source b ≡ accepted p → T (keepsRules source p)
+-- a source that is read keeps the limits of rules
+rules-kept : (b : List ℕ) (p : Program) → Bytes b → parsed source b ≡ accepted p → T (keepsRules source p)
 unfolding keeps
-extend-kept b p bytes read = first (keepsRules source p) (leb (length (encodedProgram p)) (source .length)) (parsed-sound source b p bytes read .1)
+rules-kept b p bytes read = first (keepsRules source p) (leb (length (encodedProgram p)) (source .length)) (parsed-sound source b p bytes read .1)
 
 source-kinds : source .kinds ≤ 3
 unfolding source
 source-kinds = omega arith
 
+plain-covers : Covers source plain
+unfolding source plain
+plain-covers = omega arith
+
+-- the plain form has room for an extension, and its numbers fit their fields
+plain-literals : source .literals + most ≤ plain .literals
+unfolding source plain
+plain-literals = omega arith
+
+plain-fields : TwoBytes plain
+unfolding plain
+plain-fields = record { atoms = omega arith; tags = omega arith; numbers = omega arith }
+
 pub extending : Extending
+unfolding extended extensionBytes restricted restrictionBytes
 extending =
     record {
-      extends = λ b p ls bytes read. extension-list source extendable-source p (extend-kept b p bytes read) ls;
+      writes = made-fits source (λ p ls. encodedSet (extensionList p ls));
+      reads-back = λ b k p ls bytes chars read held.
+          set-read-back plain plain-fields (plain .literals) (extensionList p ls)
+          (extension-keeps source extendable-source p (rules-kept b p bytes read) plain plain-covers source-kinds plain-literals ls (set-kept k ls chars held));
+      extends = λ b p ls bytes read. extension-list source extendable-source p (rules-kept b p bytes read) ls;
       ascends = λ k p ls bytes read. extension-ascending-form source extendable-source source-kinds p ls (set-taken k ls bytes read) (keeps-set-ascending source (source .literals) ls (set-kept k ls bytes read));
       returns = λ k p ls bytes read. let w = extension-marks p ls in ap restrictionList (w .1) ∙ restriction-joined ls (w .0) (set-source k ls bytes read) (w .2);
+      writes-restriction = λ k ls held out fits.
+          ap (λ (r : Result (List Literal)). delivered (andThen r (λ ls. accepted (encodedSet (restrictionList ls)))) out) held
+          ∙ ap (λ (r : Result (List ℕ)). delivered r out) (accepted-and-then ls (λ ls. accepted (encodedSet (restrictionList ls))))
+          ∙ delivered-fits (encodedSet (restrictionList ls)) out fits;
       restricts = restriction-set;
     }
 
@@ -150,10 +189,6 @@ checking =
     }
 
 -- the plain form has room for every translation of a source
-plain-covers : Covers source plain
-unfolding source plain
-plain-covers = omega arith
-
 plain-room : Room source plain
 unfolding source plain
 plain-room =
@@ -169,8 +204,7 @@ plain-room =
 
 module _ (b : List ℕ) (p : Program) (bytes : Bytes b) (read : parsed source b ≡ accepted p) where
   kept : T (keepsRules source p)
-  unfolding keeps
-  kept = first (keepsRules source p) (leb (length (encodedProgram p)) (source .length)) (parsed-sound source b p bytes read .1)
+  kept = rules-kept b p bytes read
 
   result-length : length (encodedProgram (translation p)) ≡ translationLength p
   result-length = length-encoded-program (translation p) ∙ length-translation p

@@ -25,12 +25,12 @@ use Rattle.record.specs.declared.Written.the-variants.{Length}
 use Rattle.record.specs.Result.{accepted}
 use Rattle.record.specs.Layout.{encodedProgram, keeps}
 use Rattle.record.specs.Reading.{parsed}
-use Rattle.litset.specs.Layout.{ascending}
+use Rattle.litset.specs.Layout.{ascending, encodedSet, keepsSet}
 use Rattle.litset.specs.Reading.{parsedSet}
 use Rattle.translate.specs.Translate.{translated}
 use Rattle.quotient.specs.Quotient.{quotientProgram, quotiented}
-use Rattle.extend.specs.Extend.{extensionList}
-use Rattle.restrict.specs.Restrict.{restrictionList}
+use Rattle.extend.specs.Extend.{extensionList, extended}
+use Rattle.restrict.specs.Restrict.{restrictionList, restricted}
 use Rattle.judge.specs.declared.Verdict.the-variants.{Yes}
 use Rattle.verdict.specs.declared.Check.the-variants.{Found}
 use Rattle.judge.specs.Verdict.{verdictOf, witness}
@@ -40,9 +40,16 @@ use Rattle.verdict.specs.Check.{checked}
 abbrev pub Reads : Limits → Type 0
 Reads F = (b : List ℕ) (p : Program) → Bytes b → (parsed F b ≡ accepted p) ↔ ((b ≡ encodedProgram p) × T (keeps F p))
 
+-- the same of sets: a set's record is read as the ascending list that it holds, of literals of the form and of no more than
+-- the operation takes
+abbrev pub ReadsSet : Limits → Type 0
+ReadsSet F = (most : ℕ) (k : List ℕ) (ls : List Literal) → Bytes k → (parsedSet F most k ≡ accepted ls) ↔ ((k ≡ encodedSet ls) × T (keepsSet F most ls))
+
 pub record Reading : Type 0 where
   pub reads-source : Reads source
   pub reads-plain : Reads plain
+  pub reads-source-set : ReadsSet source
+  pub reads-plain-set : ReadsSet plain
 
 -- demand 2, quotients in a form: of a program and a set that are read, the quotient is written where there is room, and
 -- what is written is read in plain form as the quotient
@@ -56,12 +63,20 @@ pub record Quotient : Type 0 where
   pub quotient-source : Quotients source
   pub quotient-plain : Quotients plain
 
--- demand 2, of a source and a source set that are read: the list that is written is the extension, ascending, and its
--- restriction is the set that went in; of any list, the restriction is the meaning's
+-- demand 2, of a source and a source set that are read: the extension's list is written where there is room, and what is written
+-- is read in plain form as that list, which is the extension, ascending; its restriction is the set that went in. Of a plain
+-- set that is read, the restriction's list is written where there is room; it is the meaning's restriction
 pub record Extending : Type 0 where
+  pub writes : (b k : List ℕ) (p : Program) (ls : List Literal) → parsed source b ≡ accepted p → parsedSet source (source .literals) k ≡ accepted ls
+      → (out : List ℕ) → length (encodedSet (extensionList p ls)) ≤ length out
+      → extended source b k out ≡ record { answer = Length (length (encodedSet (extensionList p ls))); buffer = write out 0 (encodedSet (extensionList p ls)) }
+  pub reads-back : (b k : List ℕ) (p : Program) (ls : List Literal) → Bytes b → Bytes k → parsed source b ≡ accepted p → parsedSet source (source .literals) k ≡ accepted ls
+      → parsedSet plain (plain .literals) (encodedSet (extensionList p ls)) ≡ accepted (extensionList p ls)
   pub extends : (b : List ℕ) (p : Program) (ls : List Literal) → Bytes b → parsed source b ≡ accepted p → setOf (extensionList p ls) ≡ extension p (setOf ls)
   pub ascends : (k : List ℕ) (p : Program) (ls : List Literal) → Bytes k → parsedSet source (source .literals) k ≡ accepted ls → T (ascending (extensionList p ls))
   pub returns : (k : List ℕ) (p : Program) (ls : List Literal) → Bytes k → parsedSet source (source .literals) k ≡ accepted ls → restrictionList (extensionList p ls) ≡ ls
+  pub writes-restriction : (k : List ℕ) (ls : List Literal) → parsedSet plain (plain .literals) k ≡ accepted ls → (out : List ℕ) → length (encodedSet (restrictionList ls)) ≤ length out
+      → restricted plain k out ≡ record { answer = Length (length (encodedSet (restrictionList ls))); buffer = write out 0 (encodedSet (restrictionList ls)) }
   pub restricts : (ls : List Literal) → setOf (restrictionList ls) ≡ restriction (setOf ls)
 
 -- demand 2, the check in a form: of a program and a set that are read, with room for the set's record, the answer and the

@@ -11,3 +11,4 @@ pub mod Keys
 pub mod Member
 pub mod Header
 pub mod Places
+pub mod Written
