@@ -1,19 +1,13 @@
 //! The rows of the check, beside plain Rust with the same search and, where it is installed, clingo on the same question.
 
 use crate::plain_reader::{Limits, PLAIN, SOURCE};
-use crate::{best, copied, plain_check, speed_start, Numbers};
+use crate::sets::WithProgram;
+use crate::{best, copied, exports, plain_check, speed_start, Numbers};
 use std::collections::{BTreeMap, BTreeSet};
 use std::fmt::Write;
 use std::hint::black_box;
 use std::process::{Command, Stdio};
 use std::time::Instant;
-
-type Check = unsafe extern "C" fn(*const u8, usize, *const u8, usize, *mut u8, usize) -> u64;
-
-extern "C" {
-    pub fn aspda_check_source(p: *const u8, n: usize, s: *const u8, k: usize, out: *mut u8, m: usize) -> u64;
-    fn aspda_check_plain(p: *const u8, n: usize, s: *const u8, k: usize, out: *mut u8, m: usize) -> u64;
-}
 
 type Literal = [u8; 5];
 
@@ -162,9 +156,8 @@ fn fours() -> Vec<Question> {
     [900, 950, 975, 1_000, 1_025, 1_050].iter().map(|hundredths| hard(&mut numbers, 64, 64 * hundredths / 100, &[4])).collect()
 }
 
-fn proved(check: Check, question: &Question, out: &mut [u8]) -> u64 {
-    let (program, set) = (black_box(&question.program), black_box(&question.set));
-    unsafe { check(program.as_ptr(), program.len(), set.as_ptr(), set.len(), out.as_mut_ptr(), out.len()) }
+fn proved(check: WithProgram, question: &Question, out: &mut [u8]) -> u64 {
+    check(black_box(&question.program), black_box(&question.set), out)
 }
 
 fn plain_rust(limits: &Limits, question: &Question, out: &mut [u8]) -> u64 {
@@ -172,7 +165,7 @@ fn plain_rust(limits: &Limits, question: &Question, out: &mut [u8]) -> u64 {
 }
 
 /// The verdict of both, which must be one, and the buffer's bytes too, and the seconds of each: the best of some calls.
-fn agreed(name: &str, limits: &Limits, check: Check, question: &Question, times: usize) -> (bool, f64, f64) {
+fn agreed(name: &str, limits: &Limits, check: WithProgram, question: &Question, times: usize) -> (bool, f64, f64) {
     let (mut ours, mut theirs) = (vec![0xAA; question.set.len()], vec![0xAA; question.set.len()]);
     let (mut a, mut b, mut word) = (f64::MAX, f64::MAX, 0);
     for _ in 0..times {
@@ -295,7 +288,7 @@ impl Clingo {
 }
 
 /// A row by the program's bytes. clingo can be asked about plain programs alone.
-fn row(name: &str, limits: &Limits, check: Check, question: &Question, clingo: Option<&[Clingo]>) {
+fn row(name: &str, limits: &Limits, check: WithProgram, question: &Question, clingo: Option<&[Clingo]>) {
     let (yes, _, _) = agreed(name, limits, check, question, 1);
     let (mut ours, mut theirs) = (vec![0; question.set.len()], vec![0; question.set.len()]);
     let (a, b) = best(|| proved(check, question, &mut ours), || plain_rust(limits, question, &mut theirs));
@@ -324,7 +317,7 @@ fn hard_lines(name: &str, other: &str, mut ours: Vec<f64>, mut theirs: Vec<f64>)
 /// Rows by the time of a check; every `step`th is put to clingo too.
 fn hard_rows(name: &str, questions: &[Question], times: usize, step: usize, clingo: &[Clingo]) {
     let each: Vec<(bool, f64, f64)> =
-        questions.iter().map(|question| agreed(name, &PLAIN, aspda_check_plain, question, times)).collect();
+        questions.iter().map(|question| agreed(name, &PLAIN, exports::check_plain, question, times)).collect();
     let yes = each.iter().filter(|(yes, _, _)| *yes).count();
     println!("{name:<20} {:>6}  {yes} yes, {} smaller", each.len(), each.len() - yes);
     hard_lines(name, "plain Rust", each.iter().map(|one| one.1).collect(), each.iter().map(|one| one.2).collect());
@@ -340,8 +333,8 @@ fn hard_rows(name: &str, questions: &[Question], times: usize, step: usize, clin
 
 pub fn rows() {
     let clingo = Clingo::modes();
-    row("check source", &SOURCE, aspda_check_source, &source(), None);
-    row("check plain 12800", &PLAIN, aspda_check_plain, &plain(), Some(&clingo));
+    row("check source", &SOURCE, exports::check_source, &source(), None);
+    row("check plain 12800", &PLAIN, exports::check_plain, &plain(), Some(&clingo));
     println!("\nsearches             checks   proved ms   beside            ms  ratio");
     hard_rows("check hard", &mixed(), 3, 11, &clingo);
     hard_rows("check hard 4", &fours(), 3, 1, &clingo);

@@ -1,7 +1,6 @@
 //! How time grows with a program: each operation on 1, 2, 4 .. 256 rules, as nanoseconds for each byte of the program.
 
-use crate::sets::{aspda_extend, aspda_quotient_source};
-use crate::{aspda_read_plain, aspda_read_source, aspda_translate, checks::aspda_check_source, Numbers};
+use crate::{exports, sets::WithProgram, Numbers};
 use std::hint::black_box;
 use std::time::Instant;
 
@@ -73,29 +72,27 @@ pub fn rows() {
     let sources: Vec<Vec<u8>> = SIZES.iter().map(|&count| program(count)).collect();
     let sets: Vec<Vec<u8>> = SIZES.iter().map(|&count| heads(count)).collect();
     let mut out = vec![0; 13 * sources[8].len()];
-    let room = out.len();
-    let buffer = out.as_mut_ptr();
     let set = |program: &[u8]| &sets[sources.iter().position(|source| source.len() == program.len()).unwrap()];
     let plain: Vec<Vec<u8>> = sources.iter().map(|source| translated(source)).collect();
 
     print!("\nns a byte, by rules ");
     SIZES.iter().for_each(|size| print!("{size:>8}"));
     println!();
-    line("read source", &sources, |p| unsafe { aspda_read_source(p.as_ptr(), p.len()) });
-    line("read its translation", &plain, |p| unsafe { aspda_read_plain(p.as_ptr(), p.len()) });
-    line("translate", &sources, |p| unsafe { aspda_translate(p.as_ptr(), p.len(), buffer, room) });
+    line("read source", &sources, exports::read_source);
+    line("read its translation", &plain, exports::read_plain);
+    line("translate", &sources, |p| exports::translate(p, &mut out));
     for (name, call) in [
-        ("quotient", aspda_quotient_source as crate::sets::WithProgram),
-        ("extend", aspda_extend),
-        ("check, yes", aspda_check_source),
+        ("quotient", exports::quotient_source as WithProgram),
+        ("extend", exports::extend),
+        ("check, yes", exports::check_source),
     ] {
-        line(name, &sources, |p| unsafe { call(p.as_ptr(), p.len(), set(p).as_ptr(), set(p).len(), buffer, room) });
+        line(name, &sources, |p| call(p, set(p), &mut out));
     }
 }
 
 fn translated(source: &[u8]) -> Vec<u8> {
     let mut out = vec![0; 13 * source.len()];
-    let length = unsafe { aspda_translate(source.as_ptr(), source.len(), out.as_mut_ptr(), out.len()) };
+    let length = exports::translate(source, &mut out);
     out.truncate(length as usize);
     out
 }

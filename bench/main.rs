@@ -3,6 +3,8 @@
 //! plain one's.
 
 mod checks;
+#[path = "../rust/aspda/src/exports.rs"]
+mod exports;
 mod growth;
 mod output_sizes;
 mod plain_check;
@@ -14,14 +16,6 @@ mod sets;
 use plain_reader::{Limits, PLAIN, SOURCE};
 use std::hint::black_box;
 use std::time::Instant;
-
-extern "C" {
-    fn aspda_read_source(p: *const u8, n: usize) -> u64;
-    fn aspda_read_plain(p: *const u8, n: usize) -> u64;
-    fn aspda_show_source(p: *const u8, n: usize, rule: u32) -> u64;
-    fn aspda_show_plain(p: *const u8, n: usize, rule: u32) -> u64;
-    fn aspda_translate(p: *const u8, n: usize, out: *mut u8, m: usize) -> u64;
-}
 
 /// A small repeatable generator, so that every run reads the same bytes.
 struct Numbers(u32);
@@ -102,17 +96,17 @@ fn row(name: &str, bytes: &[u8], proved: impl Fn(&[u8]) -> u64, plain: impl Fn(&
     speed(name, bytes.len(), best(ours, theirs), copied(bytes));
 }
 
-fn read_row(name: &str, bytes: &[u8], limits: &Limits, proved: unsafe extern "C" fn(*const u8, usize) -> u64) {
-    row(name, bytes, |p| unsafe { proved(p.as_ptr(), p.len()) }, |p| plain_reader::read(black_box(limits), p));
+fn read_row(name: &str, bytes: &[u8], limits: &Limits, proved: impl Fn(&[u8]) -> u64) {
+    row(name, bytes, proved, |p| plain_reader::read(black_box(limits), p));
 }
 
 /// The last rule's record.
-fn show_row(name: &str, bytes: &[u8], limits: &Limits, proved: unsafe extern "C" fn(*const u8, usize, u32) -> u64) {
+fn show_row(name: &str, bytes: &[u8], limits: &Limits, proved: impl Fn(&[u8], u32) -> u64) {
     let last = plain_reader::read(limits, bytes) as u32;
     row(
         name,
         bytes,
-        |p| unsafe { proved(p.as_ptr(), p.len(), black_box(last)) },
+        |p| proved(p, black_box(last)),
         |p| plain_reader::show(black_box(limits), p, black_box(last)),
     );
 }
@@ -170,17 +164,17 @@ fn translate_row(name: &str, source: &[u8]) {
     output_row(
         name,
         13 * source.len(),
-        |out| unsafe { aspda_translate(black_box(source).as_ptr(), source.len(), out.as_mut_ptr(), out.len()) },
+        |out| exports::translate(black_box(source), out),
         |out| plain_translator::translate(black_box(source), out),
     );
 }
 
 fn main() {
     println!("operation               bytes  proved MB/s    Rust MB/s  ratio  memcpy MB/s");
-    read_row("read source", &source(), &SOURCE, aspda_read_source);
-    read_row("read plain", &plain(), &PLAIN, aspda_read_plain);
-    show_row("show source", &source(), &SOURCE, aspda_show_source);
-    show_row("show plain", &plain(), &PLAIN, aspda_show_plain);
+    read_row("read source", &source(), &SOURCE, exports::read_source);
+    read_row("read plain", &plain(), &PLAIN, exports::read_plain);
+    show_row("show source", &source(), &SOURCE, exports::show_source);
+    show_row("show plain", &plain(), &PLAIN, exports::show_plain);
     translate_row("translate all", &source());
     translate_row("translate D:", &options());
     sets::rows();

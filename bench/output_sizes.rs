@@ -1,7 +1,7 @@
 //! How long a translation is, beside the old one: a plain rule for each non-empty subset of a rule's options, which are left
 //! while the others are defeated (tests/solver/traps.py has it as a program).
 
-use crate::aspda_translate;
+use crate::exports;
 
 /// A rule with `options` options and no body, as a source.
 fn source(options: u8) -> Vec<u8> {
@@ -24,7 +24,7 @@ pub fn rows() {
     for options in [1u8, 2, 3, 4, 5, 8, 12, 16] {
         let source = source(options);
         let mut out = vec![0; 13 * source.len()];
-        let length = unsafe { aspda_translate(source.as_ptr(), source.len(), out.as_mut_ptr(), out.len()) } as usize;
+        let length = exports::translate(&source, &mut out) as usize;
         let rules = u16::from_be_bytes([out[length - 2], out[length - 1]]);
         assert_eq!(usize::from(rules), 3 * usize::from(options) + 2);
         let (old_rules, old_bytes) = old(options.into());

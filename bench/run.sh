@@ -6,7 +6,7 @@ set -euo pipefail
 cd "$(dirname "${BASH_SOURCE[0]}")/.."
 [ -f target/staticlib/libaspda.a ] || rt staticlib aspda
 mkdir -p target/bench
-rustc --edition 2021 -C opt-level=3 -o target/bench/speed bench/main.rs -L native=target/staticlib -l static=aspda
+rustc --edition 2021 -C opt-level=3 -o target/bench/speed bench/main.rs -L native=target/staticlib
 target/bench/speed
 echo
 sh tests/reliability/memory.sh stack

@@ -1,18 +1,12 @@
 //! The rows of the operations that take a set: quotient, extend and restrict.
 
 use crate::plain_reader::{Limits, PLAIN, SOURCE};
-use crate::{literal, output_row, plain, plain_sets, program, source, Numbers};
+use crate::{exports, literal, output_row, plain, plain_sets, program, source, Numbers};
 use std::collections::BTreeSet;
 use std::hint::black_box;
 
-pub type WithProgram = unsafe extern "C" fn(*const u8, usize, *const u8, usize, *mut u8, usize) -> u64;
-
-extern "C" {
-    pub fn aspda_quotient_source(p: *const u8, n: usize, s: *const u8, k: usize, out: *mut u8, m: usize) -> u64;
-    fn aspda_quotient_plain(p: *const u8, n: usize, s: *const u8, k: usize, out: *mut u8, m: usize) -> u64;
-    pub fn aspda_extend(p: *const u8, n: usize, s: *const u8, k: usize, out: *mut u8, m: usize) -> u64;
-    fn aspda_restrict(s: *const u8, k: usize, out: *mut u8, m: usize) -> u64;
-}
+/// An export that takes a program, a set and a buffer.
+pub type WithProgram = fn(&[u8], &[u8], &mut [u8]) -> u64;
 
 /// A set being made: its literals as byte strings, ascending.
 struct Chosen(BTreeSet<Vec<u8>>);
@@ -107,10 +101,7 @@ fn row(
     output_row(
         name,
         room,
-        |out| unsafe {
-            let (program, set) = (black_box(program), black_box(set));
-            proved(program.as_ptr(), program.len(), set.as_ptr(), set.len(), out.as_mut_ptr(), out.len())
-        },
+        |out| proved(black_box(program), black_box(set), out),
         |out| plain(black_box(program), black_box(set), out),
     );
 }
@@ -123,23 +114,23 @@ fn quotient_row(name: &str, limits: &Limits, program: &[u8], set: &[u8], proved:
 
 fn extend_row(name: &str, source: &[u8]) {
     let set = holding(source);
-    row(name, (source, &set), 4 + 5 * PLAIN.set, aspda_extend, plain_sets::extend);
+    row(name, (source, &set), 4 + 5 * PLAIN.set, exports::extend, plain_sets::extend);
 }
 
 fn restrict_row(name: &str, set: &[u8]) {
     output_row(
         name,
         set.len(),
-        |out| unsafe { aspda_restrict(black_box(set).as_ptr(), set.len(), out.as_mut_ptr(), out.len()) },
+        |out| exports::restrict(black_box(set), out),
         |out| plain_sets::restrict(black_box(set), out),
     );
 }
 
 pub fn rows() {
     let (source, plain) = (source(), plain());
-    quotient_row("quotient source", &SOURCE, &source, &defeating(&source), aspda_quotient_source);
-    quotient_row("quotient plain 1000", &PLAIN, &plain, &removing(&plain, 1_000), aspda_quotient_plain);
-    quotient_row("quotient plain 5352", &PLAIN, &plain, &removing(&plain, 5_352), aspda_quotient_plain);
+    quotient_row("quotient source", &SOURCE, &source, &defeating(&source), exports::quotient_source);
+    quotient_row("quotient plain 1000", &PLAIN, &plain, &removing(&plain, 1_000), exports::quotient_plain);
+    quotient_row("quotient plain 5352", &PLAIN, &plain, &removing(&plain, 5_352), exports::quotient_plain);
     extend_row("extend all", &program(&[(16, 16, 16); 256], |_| true, 4));
     extend_row("extend D:", &program(&[(16, 0, 0); 256], |_| true, 4));
     restrict_row("restrict 5352", &Chosen::none().upto(5_352, any(5, 7)).record());

@@ -167,6 +167,17 @@ gives "" translate kit.txt -o kit.plain
 gives "" convert --plain kit-plain.txt -o again.plain
 same again.plain kit.plain
 
+# The longest source and its translation, listed and read again.
+rule="tag 7: $(seq -s ' or ' 16) if $(seq -s ' and ' 16) and not $(seq -s ' and not ' 16)."
+for _ in {1..256}; do echo "$rule"; done >longest.txt
+gives "256 rules, 63236 bytes" read longest.txt
+gives "" translate longest.txt -o longest.plain
+gives "12800 rules, 317444 bytes" read --plain longest.plain
+gives "" convert --plain longest.plain -o longest-plain.txt
+[ "$(grep -c '% rule' longest-plain.txt)" = 12800 ] || fail "longest-plain.txt does not list 12,800 rules"
+gives "" convert --plain longest-plain.txt -o again.plain
+same again.plain longest.plain
+
 # Each refusal by number and place, with rule and line where the program is text. 9 is a short buffer's, and the
 # command's are long enough: rust/aspda/tests/refusals.rs has it.
 head -c 63237 /dev/zero >long

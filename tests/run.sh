@@ -1,7 +1,7 @@
 #!/bin/sh
-# Everything that runs: the reference's self-test, the vectors, the runner against the library, the short form of
-# tests/reliability, the crate, the command, the worked examples. Needs python3, rustc, cargo, a C and a C++ compiler, clingo,
-# target/staticlib/libaspda.a (rt staticlib aspda) and target/bin/filter (rt check filter).
+# Everything that runs: functions that nothing reaches, the reference's self-test, the lines of crates/calls, the vectors, the runner
+# against the library, the short form of tests/reliability, the crate, the command, the worked examples. Needs python3, rustc, cargo,
+# a C and a C++ compiler, clingo, target/staticlib/libaspda.a (rt staticlib aspda) and target/bin/filter (rt check filter).
 
 set -eu
 cd "$(dirname "$0")/.."
@@ -10,7 +10,8 @@ FILTER=${FILTER:-target/bin/filter}
 export PYTHONDONTWRITEBYTECODE=1
 
 build=$(mktemp -d)
-trap 'rm -rf "$build"' EXIT
+beside=
+trap '[ -z "$beside" ] || kill "$beside" 2>/dev/null || true; rm -rf "$build"' EXIT
 
 say() { printf '%s\n' "tests: $*"; }
 
@@ -19,11 +20,21 @@ if [ ! -f "$LIBRARY/libaspda.a" ]; then
     exit 2
 fi
 
+say "functions that nothing reaches"
+python3 tests/reached.py
+
+# What calls the library runs beside the rest: each by itself leaves a core idle. What it says is shown at the end.
+{ LIBRARY=$LIBRARY bash tests/wrappers.sh && sh tests/endtoend/run.sh; } >"$build/beside" 2>&1 &
+beside=$!
+
 say "self-test of the reference"
 python3 tests/reference/selftest.py
 
+say "what the program calls writes, from the reference"
+python3 tests/calls.py | cmp - crates/calls/stdout
+
 say "vectors"
-python3 tests/vectors.py "$build/vectors" --ops read,show,translate,quotient,extend,restrict,check,filter
+python3 tests/vectors.py "$build/vectors"
 
 say "building the runner"
 rustc --edition 2021 -O -L "native=$LIBRARY" -o "$build/runner" tests/runner/main.rs
@@ -32,10 +43,18 @@ say "running the vectors"
 "$build/runner" "$build/vectors" --filter "$FILTER"
 
 say "the filter on files"
-for input in tests/filter/*.in; do
-    "$FILTER" <"$input" >"$build/out"
-    cmp "$build/out" "${input%.in}.out"
+compared=0
+for output in tests/filter/*.out; do
+    [ -f "$output" ] || break
+    "$FILTER" <"${output%.out}.in" >"$build/out"
+    cmp "$build/out" "$output"
+    compared=$((compared + 1))
 done
+inputs=$(find tests/filter -name '*.in' | wc -l)
+if [ "$compared" -eq 0 ] || [ "$compared" -ne "$inputs" ]; then
+    say "tests/filter: $inputs inputs, $compared outputs compared"
+    exit 1
+fi
 
 say "a second reference, random calls beside it, memory"
 LIBRARY="$LIBRARY" sh tests/reliability/short.sh "$build/vectors"
@@ -49,9 +68,10 @@ say "linking from C"
 cc -std=c11 -Wall -Wextra -Werror -o "$build/link" tests/link.c -L "$LIBRARY" -laspda
 "$build/link"
 
-say "the Rust crate, the command, the C example"
-LIBRARY=$LIBRARY bash tests/wrappers.sh
-
-say "worked examples from text to a solver and back"
-sh tests/endtoend/run.sh
+say "the Rust crate, the command, the C example; worked examples from text to a solver and back"
+status=0
+wait "$beside" || status=$?
+beside=
+cat "$build/beside"
+[ "$status" -eq 0 ] || exit "$status"
 say "all passed"

@@ -5,7 +5,8 @@
     python3 tests/vectors.py FILE --random 100000 --seed 7   random calls instead
     python3 tests/vectors.py - --random 100000 | runner -    through a pipe
 
-The same seed gives the same file. The format is in tests/cases/vector_file.py.
+The same seed gives the same file. The format is in tests/cases/vector_file.py. A file without rows
+is a failure, and so is a default set in which an operation has none.
 """
 
 import argparse
@@ -50,14 +51,19 @@ def cases(options, operations):
 
 def write(options, stream):
     writer = Writer(stream, OPERATIONS)
-    refusals = Counter()
-    for case in cases(options, chosen_operations(options.ops.split(","))):
+    operations = chosen_operations(options.ops.split(","))
+    rows, refusals = Counter(), Counter()
+    for case in cases(options, operations):
         row = evaluated(case)
         writer.row(row)
+        rows[case.operation.name] += 1
         refusals[refusal_in(row) is not None] += 1
     writer.end()
     print(f"vectors: seed {options.seed}, {writer.rows} rows, {refusals[True]} refused",
           file=sys.stderr)
+    without = [operation.name for operation in operations if not rows[operation.name]]
+    if not rows or (without and options.random is None):
+        sys.exit(f"vectors: no rows of {', '.join(without)}")
 
 
 def main():

@@ -4,7 +4,7 @@
 set -euo pipefail
 cd "$(dirname "${BASH_SOURCE[0]}")/.."
 LIBRARY=$(cd "${LIBRARY:-target/staticlib}" && pwd)
-export ASPDA_LIB_DIR=$LIBRARY CARGO_TARGET_DIR=$PWD/target/rust
+export ASPDA_LIB_DIR=$LIBRARY CARGO_TARGET_DIR=$PWD/target/rust CARGO_TERM_COLOR=never
 build=$(mktemp -d)
 trap 'rm -rf "$build"' EXIT
 
@@ -18,7 +18,21 @@ quietly() {
     "$@" >"$build/log" 2>&1 || { cat "$build/log"; fail "$* failed"; }
 }
 
+# passed SUITE: how many tests passed in the suite that cargo's line names; 0 if there is no such suite.
+passed() {
+    awk -v suite="$1" '
+        index($0, suite) { is_named = 1 }
+        is_named && /^test result: ok/ { count = $4; exit }
+        END { print count + 0 }' "$build/log"
+}
+
 quietly cargo test --offline --manifest-path rust/Cargo.toml
+# The crate's tests are its examples and the files of its tests/; the command's stand beside its code.
+suites=("Doc-tests aspda" "Running unittests src/main.rs ")
+for file in rust/*/tests/*.rs; do suites+=("Running tests/${file##*/} "); done
+for suite in "${suites[@]}"; do
+    [ "$(passed "$suite")" -gt 0 ] || { cat "$build/log"; fail "no test passed in '$suite'"; }
+done
 awk '/^test result/ { passed += $4 } END { print "wrappers.sh: " passed " unit and doc tests passed" }' "$build/log"
 
 # Without the library the build says how to make it.
@@ -29,7 +43,8 @@ fi
 grep -qF 'rt staticlib aspda' "$build/log" || { cat "$build/log"; fail "no word about the missing library"; }
 
 quietly cargo build --release --offline --manifest-path rust/Cargo.toml
-bash tests/command.sh
+bash tests/command.sh | tee "$build/log"
+grep -q '^command.sh: [1-9][0-9]* runs of the command, all as expected$' "$build/log" || fail "command.sh ran nothing"
 
 cc -std=c11 -Wall -Wextra -Werror -I include -o "$build/translate" examples/c/translate.c "$LIBRARY/libaspda.a"
 quietly "$build/translate" examples/m1.aspda "$build/m1.plain"

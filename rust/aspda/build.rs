@@ -15,7 +15,6 @@ fn main() {
         process::exit(1);
     }
     println!("cargo:rustc-link-search=native={}", directory.display());
-    println!("cargo:rustc-link-lib=static=aspda");
 }
 
 fn library_directory() -> PathBuf {

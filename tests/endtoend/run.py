@@ -40,7 +40,6 @@ from samples import literals_of                                                 
 from text_form import Program, TextError, read_program, read_sets, set_text     # noqa: E402
 
 COMMAND = "target/rust/release/aspda"
-LEAST_KITS = 10
 OPTIONS = range(5, 17)      # of a kit, all its rules together
 MOST_IN_PLAIN_SET = 64      # literals that check takes
 NEAR = 12                   # sets with a literal dropped, and with one added, of each form
@@ -274,9 +273,9 @@ def main():
     try:
         print(f"endtoend: {solve.version()}")
         m3, *kits = map(read_kit, answers.kit_files())
-        expect(len(kits) >= LEAST_KITS and all(sum(kit.options()) in OPTIONS for kit in kits)
+        expect(len(kits) >= answers.LEAST_KITS and all(sum(kit.options()) in OPTIONS for kit in kits)
                and any(kit.options() == [SIXTEEN[0]] for kit in kits),
-               f"not {LEAST_KITS} kits of 5 to 16 options, one of them with 16 in one rule")
+               f"not {answers.LEAST_KITS} kits of 5 to 16 options, one of them with 16 in one rule")
         with tempfile.TemporaryDirectory() as folder:
             failed = run_all(Command(program, folder), [m3, *kits])
         compare_readme(kits)

@@ -31,6 +31,14 @@ class Tally:
         self.checks = 0
         self.failed = 0
 
+    def run(self, part, *arguments):
+        """A part of the tests; one that checks nothing has failed."""
+        before = self.checks
+        part(self, *arguments)
+        if self.checks == before:
+            self.failed += 1
+            print(f"failed: {part.__name__} checked nothing")
+
     def same(self, name, got, expected):
         self.checks += 1
         if got != expected:
@@ -342,12 +350,12 @@ def main():
     for part in (marked_example_1, marked_example_2, marked_example_3, marked_examples_4_and_5,
                  marked_examples_6_to_9, kinds_of_literals, rule_limits, count_limits,
                  number_limits, length_limits, set_limits, show_limits):
-        part(tally)
+        tally.run(part)
     for part in (one_to_one_match, brute_force_and_search, verdicts_and_answer_sets,
                  reading_and_writing):
-        part(tally, random.Random(f"{SEED} {part.__name__}"))
+        tally.run(part, random.Random(f"{SEED} {part.__name__}"))
     print(f"{tally.checks} checks, {tally.failed} failed")
-    return 1 if tally.failed else 0
+    return 1 if tally.failed or not tally.checks else 0
 
 
 if __name__ == "__main__":

@@ -98,6 +98,17 @@ void print(const Tallies &tallies)
     }
 }
 
+bool all_called(const Tallies &tallies)
+{
+    bool well = true;
+    for (std::size_t i = 0; i < exports.size(); ++i) {
+        if (tallies[i].calls > 0) continue;
+        std::printf("%s was not called\n", exports[i].name);
+        well = false;
+    }
+    return well;
+}
+
 std::string hex(const std::uint8_t *bytes, std::size_t length)
 {
     const char digits[] = "0123456789abcdef";

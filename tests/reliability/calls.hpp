@@ -77,6 +77,8 @@ struct Tally {
 using Tallies = std::array<Tally, exports.size()>;
 
 void print(const Tallies &tallies);
+// False, and told, if an export was not called: a run without calls has shown nothing.
+bool all_called(const Tallies &tallies);
 
 std::string hex(const std::uint8_t *bytes, std::size_t length);
 // The call, and both answers where they differ.

@@ -1,5 +1,6 @@
 // The library beside the reference on random calls: differential SEED COUNT [THREADS].
 // The calls are those of cases.hpp, batch by batch, and depend on seed and count alone. Stops at the first difference.
+// It fails too if fewer calls were made than asked for, or none of an export.
 #include "blocks.hpp"
 #include "cases.hpp"
 
@@ -148,6 +149,10 @@ int main(int count, char **words)
         return 1;
     }
     calls::print(run.tallies);
+    std::uint64_t made = 0;
+    for (const calls::Tally &tally : run.tallies) made += tally.calls;
+    if (made != run.count) return std::printf("%" PRIu64 " calls were made\n", made), 1;
+    if (!calls::all_called(run.tallies)) return 1;
     blocks::report();
     std::printf("digest %016" PRIx64 "; %.1f s, %.0f cases a second; no difference\n", run.sum, seconds,
                 static_cast<double>(run.count) / seconds);

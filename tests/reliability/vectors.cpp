@@ -1,5 +1,6 @@
 // The reference beside the vector file of tests/vectors.py, which has the answers of the Python reference: the two were
-// written apart. The format is described in tests/cases/vector_file.py. Rows of the filter are passed over.
+// written apart. The format is described in tests/cases/vector_file.py. Rows of the filter are passed over. An export
+// without rows is a failure.
 #include "calls.hpp"
 
 #include <algorithm>
@@ -93,16 +94,21 @@ bool row_agrees(File &file, const std::vector<unsigned> &operations, calls::Tall
 
 bool all_agree(File &file, calls::Tallies &tallies)
 {
-    file.take(std::string("aspda vectors 1\n").size());
+    const std::string magic = "aspda vectors 1\n";
+    if (file.take(magic.size()) != Bytes(magic.begin(), magic.end())) throw std::runtime_error("this is no vector file");
     std::vector<unsigned> operations;
     for (std::uint64_t names = file.number(1); names > 0; --names) operations.push_back(operation_named(file.text()));
-    for (;;) {
+    for (std::uint64_t rows = 0;;) {
         switch (file.number(1)) {
         case 'B': file.blobs.push_back(file.take(file.number(4))); break;
         case 'R':
+            ++rows;
             if (!row_agrees(file, operations, tallies)) return false;
             break;
-        default: return true;
+        case 'E':
+            if (file.number(4) != rows) throw std::runtime_error("the vector file's number of rows is wrong");
+            return true;
+        default: throw std::runtime_error("unknown entry in the vector file");
         }
     }
 }
@@ -116,5 +122,6 @@ int main(int count, char **words)
     calls::Tallies tallies{};
     if (!all_agree(file, tallies)) return 1;
     calls::print(tallies);
+    if (!calls::all_called(tallies)) return 1;
     std::puts("the two references agree");
 }

@@ -4,12 +4,15 @@
 //!
 //! Each row is run twice, with complementary bytes in the lent buffer and around all slices: a byte
 //! of the result that was not written, and a byte outside that was read or written, shows in one of
-//! the two. Fails on any difference, and if a refusal number that an operation can give is reached
-//! fewer than N times (20 unless given).
+//! the two. Fails on any difference, if there are no rows, and if an operation has none or a refusal
+//! number that it can give is reached fewer than N times (20 unless given; 0 asks for neither).
 //!
 //! The filter is a program of its own, run for its rows if `--filter` names it.
 
+#[path = "../../rust/aspda/src/exports.rs"]
+#[rustfmt::skip] // its lines have the crate's width
 mod exports;
+mod operations;
 mod vector_file;
 
 use std::collections::BTreeMap;
@@ -18,7 +21,7 @@ use std::io::{self, BufReader, Read, Write};
 use std::process::{Command, ExitCode, Stdio};
 use std::thread;
 
-use exports::{Export, Inputs, EXPORTS};
+use operations::{Inputs, Operation, OPERATIONS, TRANSLATE};
 use vector_file::{Row, Vectors};
 
 const REFUSED: u64 = 1 << 63;
@@ -120,13 +123,13 @@ fn differences(options: &Options, row: &Row) -> Result<Vec<String>, String> {
             .ok_or("rows of the filter, but no --filter")?;
         return filter_differences(program, row);
     }
-    let export = EXPORTS
+    let operation = OPERATIONS
         .iter()
-        .find(|export| export.name == row.operation)
+        .find(|operation| operation.name == row.operation)
         .ok_or_else(|| format!("rows of {}, which is not exported", row.operation))?;
-    let mut found = export_differences(export, row, 0x00);
+    let mut found = export_differences(operation, row, 0x00);
     if found.is_empty() {
-        found = export_differences(export, row, 0xFF);
+        found = export_differences(operation, row, 0xFF);
     }
     Ok(found)
 }
@@ -167,7 +170,7 @@ impl Guarded {
     }
 }
 
-fn export_differences(export: &Export, row: &Row, flip: u8) -> Vec<String> {
+fn export_differences(operation: &Operation, row: &Row, flip: u8) -> Vec<String> {
     let program = Guarded::new(&row.program, flip);
     let set = Guarded::new(&row.set, flip);
     let lent = filling(row.room, flip);
@@ -177,7 +180,7 @@ fn export_differences(export: &Export, row: &Row, flip: u8) -> Vec<String> {
         set: set.inner(),
         rule: row.rule,
     };
-    let word = export.call(&inputs, out.inner_mut());
+    let word = operation.call(&inputs, out.inner_mut());
 
     let mut found = Vec::new();
     if word != row.word {
@@ -295,13 +298,16 @@ fn refusal_number(row: &Row) -> Option<u64> {
 
 /// A line for each operation; true if all is well.
 fn report(options: &Options, tallies: &BTreeMap<String, Tally>) -> bool {
-    let mut well = true;
-    let mut demands: Vec<(&str, &[u64])> = EXPORTS
+    let mut well = !tallies.is_empty();
+    if tallies.is_empty() {
+        println!("NO ROWS in the vector file");
+    }
+    let mut demands: Vec<(&str, &[u64])> = OPERATIONS
         .iter()
-        .map(|export| (export.name, export.refusals))
+        .map(|operation| (operation.name, operation.refusals))
         .collect();
     if options.filter.is_some() {
-        demands.push(("filter", exports::TRANSLATE));
+        demands.push(("filter", TRANSLATE));
     }
     for (name, refusals) in demands {
         let nothing = Tally::default();

@@ -41,7 +41,7 @@ def main():
             (EXAMPLES / name).write_bytes(data)
     wrong = [name for name, data in made.items() if not is_as_made(name, data)]
     print(f"{len(made)} files, {len(wrong)} failed{': ' if wrong else ''}{', '.join(wrong)}")
-    return 1 if wrong else 0
+    return 1 if wrong or not made else 0
 
 
 if __name__ == "__main__":

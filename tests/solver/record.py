@@ -91,6 +91,9 @@ def first_difference(text):
 
 
 def run(options):
+    if options.count < 1:
+        print("record: no cases asked for")
+        return 1
     tally = Counter()
     text = recorded.file_text(remarks(options), made_cases(options, tally))
     print(f"record: {options.count} cases match, {solve.version()}")

@@ -41,6 +41,7 @@ class Report:
     """Prints what is shown, and remembers whether all of it was as described."""
 
     def __init__(self):
+        self.told = 0
         self.failed = 0
 
     def title(self, text):
@@ -51,6 +52,7 @@ class Report:
 
     def expect(self, text, right):
         print(f"  {text}" if right else f"  NOT AS DESCRIBED: {text}")
+        self.told += 1
         self.failed += not right
 
 
@@ -259,9 +261,13 @@ def numbers_of_rules(report):
 def main():
     report = Report()
     for part in (default_options, smallest_case, random_sources, numbers_of_rules):
+        before = report.told
         part(report)
-    print(f"traps: {report.failed} not as described" if report.failed else "traps: as described")
-    return 1 if report.failed else 0
+        if report.told == before:
+            report.expect(f"{part.__name__} shows something", False)
+    print(f"traps: {report.failed} not as described" if report.failed
+          else f"traps: {report.told} statements as described")
+    return 1 if report.failed or not report.told else 0
 
 
 if __name__ == "__main__":

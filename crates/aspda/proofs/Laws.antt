@@ -1,2 +1,4 @@
 pub mod Words
 pub mod Verdicts
+pub mod Lengths
+pub mod Told

@@ -1,5 +1,5 @@
 -- The claims, each from laws. Assumes nothing.
-use Prim.Native.Nat.{ℕ, _+_, _*_, _≤_}
+use Prim.Native.Nat.{ℕ, _+_, _*_, _≤_, _<_}
 use native.Mathlib.Omega.{arith}
 use native.Mathlib.Nat.{zero-add}
 use mathlib.Core.Path.{_≡_, refl, sym, _∙_, ap}
@@ -14,17 +14,17 @@ use Rattle.buffer.specs.Write.{write}
 use Rattle.buffer.proofs.Laws.Write.{take-write, drop-write}
 use Rattle.literal.specs.declared.Limits.{Limits}
 use Rattle.literal.specs.declared.Literal.{Literal}
-use Rattle.literal.specs.Literal.{takes}
+use Rattle.literal.specs.Literal.{mostKind, takes}
 use Rattle.literal.specs.Limits.{source, plain}
-use Rattle.semantics.specs.Set.{all, setOf}
+use Rattle.semantics.specs.Set.{eachOf, setOf}
 use Rattle.semantics.specs.Rule.{Program}
 use Rattle.semantics.specs.Extension.{sourceKind}
-use Rattle.semantics.specs.Translation.{translation, programLength, translationLength}
+use Rattle.semantics.specs.Translation.{translation, translationLength}
+use Rattle.semantics.proofs.Laws.Length.{programLength, length-translation, count-translation, thirteenfold}
 use Rattle.semantics.specs.Match.{FormMatch}
 use Rattle.semantics.specs.Form.{keepsRules}
-use Rattle.semantics.proofs.Laws.Tests.{both, first, all-mem, all-intro}
+use Rattle.semantics.proofs.Laws.Tests.{both, all-mem, all-intro}
 use Rattle.semantics.proofs.Laws.Form.{Covers, takes-source}
-use Rattle.semantics.proofs.Laws.Length.{length-translation, count-translation, thirteenfold}
 use Rattle.semantics.proofs.Laws.Room.{Room, translation-keeps, translation-short}
 use Rattle.semantics.proofs.FormMatch.{form-match}
 use Rattle.semantics.specs.Meaning.{AnswerSet}
@@ -37,19 +37,21 @@ use Rattle.record.specs.Result.{Result, accepted, andThen, refuseIf, Outcome, d
 use Rattle.record.specs.Layout.{encodedProgram, keeps}
 use Rattle.record.specs.Reading.{parsed}
 use Rattle.record.proofs.Laws.Layout.{length-encoded-program}
+use Rattle.record.proofs.Laws.Bounds.{parsed-short}
 use Rattle.record.proofs.Laws.Reading.{parsed-sound, parsed-complete, reading-iff}
 use Rattle.record.proofs.Laws.Result.{accepted-and-then}
 use Rattle.record.proofs.Laws.Delivered.{delivered-fits}
 use Rattle.translate.specs.Translate.{translatedBytes, translated}
 use Rattle.litset.specs.Layout.{encodedSet, keepsSet}
 use Rattle.litset.specs.Reading.{parsedSet}
+use Rattle.inputs.specs.Inputs.{withInputs}
 use Rattle.litset.proofs.Laws.Reading.{parsed-set-sound, set-reading-iff, keeps-set-taken, keeps-set-ascending}
 use Rattle.litset.proofs.Laws.Written.{TwoBytes, set-read-back}
 use Rattle.quotient.specs.Quotient.{quotientProgram, quotientBytes, quotiented}
 use Rattle.quotient.proofs.Laws.Plain.{Within, quotient-read, source-within, plain-within}
 use Rattle.extend.proofs.Laws.Extend.{extension-list, extension-ascending-form}
 use Rattle.extend.specs.Extend.{extensionList, extensionBytes, extended}
-use Rattle.extend.specs.Extending.{most}
+use Rattle.extend.specs.Code.{most}
 use Rattle.extend.proofs.Laws.Outcome.{extendable-source}
 use Rattle.extend.proofs.Laws.Kept.{extension-keeps}
 use Rattle.extend.proofs.Laws.Added.{extension-marks}
@@ -60,7 +62,11 @@ use Rattle.judge.specs.declared.Verdict.the-variants.{Yes}
 use Rattle.verdict.specs.declared.Check.the-variants.{Found}
 use Rattle.judge.specs.Verdict.{verdictOf, witness}
 use Rattle.verdict.specs.Check.{found, Checked, checkedOf, checked}
-use Rattle.aspda.specs.Claims.{Reading, Quotients, Quotient, Extending, Checks, Checking, Translates, Translating}
+use Rattle.showing.proofs.Laws.Record.{shown-behind, shown-record, shown-nothing}
+use Rattle.aspda.proofs.Laws.Lengths.{rules-kept, quotient-no-longer, extension-at-most, restriction-no-longer}
+use Rattle.aspda.proofs.Laws.Told.{bounded, bounded-then, told-delivered, told-read, told-show, told-checked, told-quotiented, told-extended, told-restricted}
+use Rattle.word.specs.Words.{ToldWritten}
+use Rattle.aspda.specs.Claims.{Reading, Quotients, Quotient, Extending, Checks, Checking, Shows, Showing, Translates, Translating, Tells, Words}
 
 pub reading : Reading
 reading =
@@ -84,39 +90,35 @@ made-fits F make b k p ls e q out fits =
 
 -- quotients, in a form whose figures are within the plain form's
 quotients : (F : Limits) → Within F plain → Quotients F
-unfolding quotiented quotientBytes
+unfolding quotiented quotientBytes withInputs
 quotients F w =
     record {
       writes = made-fits F (λ p ls. encodedProgram (quotientProgram p ls));
       reads-back = λ b p ls bytes e. quotient-read F plain w p ls (parsed-sound F b p bytes e .1);
+      no-longer = λ b p ls bytes e. quotient-no-longer F b p bytes e ls;
     }
 
 pub quotient : Quotient
 quotient = record { quotient-source = quotients source source-within; quotient-plain = quotients plain plain-within }
+
+-- a source has kinds 0 to 3
+source-kinds : mostKind (source .kinds) ≤ 3
+unfolding source mostKind
+source-kinds = omega arith
 
 -- a source set that is read holds literals of source kinds, in ascending order
 module _ (k : List ℕ) (ls : List Literal) (bytes : Bytes k) (read : parsedSet source (source .literals) k ≡ accepted ls) where
   set-kept : T (keepsSet source (source .literals) ls)
   set-kept = parsed-set-sound source (source .literals) k ls bytes read .1
 
-  set-taken : T (all (takes source) ls)
+  set-taken : T (eachOf (takes source) ls)
   set-taken = keeps-set-taken source (source .literals) ls set-kept
 
-  set-source : T (all sourceKind ls)
-  unfolding source
-  set-source = all-intro sourceKind ls (λ l m. takes-source source (omega arith) l (all-mem (takes source) set-taken m))
-
--- a source that is read keeps the limits of rules
-rules-kept : (b : List ℕ) (p : Program) → Bytes b → parsed source b ≡ accepted p → T (keepsRules source p)
-unfolding keeps
-rules-kept b p bytes read = first (keepsRules source p) (leb (length (encodedProgram p)) (source .length)) (parsed-sound source b p bytes read .1)
-
-source-kinds : source .kinds ≤ 3
-unfolding source
-source-kinds = omega arith
+  set-source : T (eachOf sourceKind ls)
+  set-source = all-intro sourceKind ls (λ l m. takes-source source source-kinds l (all-mem (takes source) set-taken m))
 
 plain-covers : Covers source plain
-unfolding source plain
+unfolding source plain mostKind
 plain-covers = omega arith
 
 -- the plain form has room for an extension, and its numbers fit their fields
@@ -129,14 +131,14 @@ unfolding plain
 plain-fields = record { atoms = omega arith; tags = omega arith; numbers = omega arith }
 
 pub extending : Extending
-unfolding extended extensionBytes restricted restrictionBytes
+unfolding extended extensionBytes withInputs restricted restrictionBytes source
 extending =
     record {
       writes = made-fits source (λ p ls. encodedSet (extensionList p ls));
       reads-back = λ b k p ls bytes chars read held.
           set-read-back plain plain-fields (plain .literals) (extensionList p ls)
-          (extension-keeps source extendable-source p (rules-kept b p bytes read) plain plain-covers source-kinds plain-literals ls (set-kept k ls chars held));
-      extends = λ b p ls bytes read. extension-list source extendable-source p (rules-kept b p bytes read) ls;
+          (extension-keeps source extendable-source p (rules-kept source b p bytes read) plain plain-covers source-kinds plain-literals ls (set-kept k ls chars held));
+      extends = λ b p ls bytes read. extension-list source extendable-source p (rules-kept source b p bytes read) ls;
       ascends = λ k p ls bytes read. extension-ascending-form source extendable-source source-kinds p ls (set-taken k ls bytes read) (keeps-set-ascending source (source .literals) ls (set-kept k ls bytes read));
       returns = λ k p ls bytes read. let w = extension-marks p ls in ap restrictionList (w .1) ∙ restriction-joined ls (w .0) (set-source k ls bytes read) (w .2);
       writes-restriction = λ k ls held out fits.
@@ -144,6 +146,8 @@ extending =
           ∙ ap (λ (r : Result (List ℕ)). delivered r out) (accepted-and-then ls (λ ls. accepted (encodedSet (restrictionList ls))))
           ∙ delivered-fits (encodedSet (restrictionList ls)) out fits;
       restricts = restriction-set;
+      at-most = λ b k p ls bytes chars read held. extension-at-most source b p bytes read extendable-source k ls chars held;
+      no-longer = restriction-no-longer plain;
     }
 
 -- a finding's verdict is yes exactly where it is "answer set"
@@ -163,7 +167,7 @@ found-verdict e = cc
 
 module _ (F : Limits) (b k : List ℕ) (p : Program) (ls : List Literal) (read : parsed F b ≡ accepted p) (held : parsedSet F (F .checked) k ≡ accepted ls) (out : List ℕ) (fits : length k ≤ length out) where
   check-finds : checked F b k out ≡ record { answer = Found (verdictOf (finding p ls)); buffer = write out 0 (witness (finding p ls)) }
-  unfolding checked found andThen refuseIf checkedOf
+  unfolding checked found withInputs andThen refuseIf checkedOf
   check-finds =
       ap (λ (r : Result Program). checkedOf (andThen r (λ p. andThen (parsedSet F (F .checked) k) (λ ls. refuseIf (ltb (length out) (length k)) (refusal OutputShort 0) (accepted (finding p ls))))) out) read
       ∙ ap (λ (r : Result (List Literal)). checkedOf (andThen r (λ ls. refuseIf (ltb (length out) (length k)) (refusal OutputShort 0) (accepted (finding p ls)))) out) held
@@ -188,13 +192,19 @@ checking =
       shows-smaller = finding-smaller;
     }
 
+shows : (F : Limits) → Shows F
+shows F = record { finds = shown-behind F; hands-back = shown-record F; hands-back-nothing = shown-nothing F }
+
+pub showing : Showing
+showing = record { show-source = shows source; show-plain = shows plain }
+
 -- the plain form has room for every translation of a source
 plain-room : Room source plain
 unfolding source plain
 plain-room =
     record {
       covers = plain-covers;
-      source-kinds = omega arith;
+      source-kinds = source-kinds;
       heads = omega arith;
       positives = omega arith;
       nafs = omega arith;
@@ -204,7 +214,7 @@ plain-room =
 
 module _ (b : List ℕ) (p : Program) (bytes : Bytes b) (read : parsed source b ≡ accepted p) where
   kept : T (keepsRules source p)
-  kept = rules-kept b p bytes read
+  kept = rules-kept source b p bytes read
 
   result-length : length (encodedProgram (translation p)) ≡ translationLength p
   result-length = length-encoded-program (translation p) ∙ length-translation p
@@ -224,8 +234,7 @@ module _ (b : List ℕ) (p : Program) (bytes : Bytes b) (read : parsed source b 
   at-most-thirteenfold = omega (arith, source-length, thirteenfold source (omega arith) p kept)
 
   match : FormMatch source plain p
-  unfolding source
-  match = form-match source plain (omega arith) plain-covers p kept
+  match = form-match source plain source-kinds plain-covers p kept
 
   module _ (out : List ℕ) (fits : translationLength p ≤ length out) where
     written : translated source b out ≡ record { answer = Length (translationLength p); buffer = write out 0 (encodedProgram (translation p)) }
@@ -263,4 +272,31 @@ translating =
       thirteenfold = at-most-thirteenfold;
       rules = λ b p read. count-translation p;
       matches = match;
+    }
+
+tells : (F : Limits) → F .length < 2147483648 → F .rules < 4294967296 → 4 + 5 * F .checked < 4294967296 → Tells F
+tells F long rules sets =
+    record {
+      reads = λ b bytes. told-read F long b bytes (omega arith);
+      shows = λ b n bytes. told-show F long b bytes n;
+      quotients = λ b k out bytes. told-quotiented F long b bytes k out;
+      checks = λ b k out bytes chars. told-checked F long b bytes rules sets k out chars;
+    }
+
+translated-told : (b out : List ℕ) → Bytes b → ToldWritten (translated source b out .answer)
+unfolding translated translatedBytes source
+translated-told b out bytes =
+    told-delivered (13 * source .length) (omega arith) (translatedBytes source b) out
+    (bounded-then (13 * source .length) (parsed source b) (λ q. accepted (encodedProgram (translation q))) (λ p e.
+    bounded (13 * source .length) (encodedProgram (translation p)) (omega (arith, result-length b p bytes e, at-most-thirteenfold b p bytes e, parsed-short source b p e))))
+
+pub words : Words
+unfolding source plain
+words =
+    record {
+      tells-source = tells source (omega arith) (omega arith) (omega arith);
+      tells-plain = tells plain (omega arith) (omega arith) (omega arith);
+      translates = translated-told;
+      extends = λ b k out bytes chars. told-extended source (omega arith) b bytes extendable-source k out chars;
+      restricts = λ k out bytes. told-restricted plain (omega arith) k out bytes;
     }

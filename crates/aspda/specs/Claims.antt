@@ -1,11 +1,11 @@
 -- What is to be believed of the library, as types in the order of its demands. `proofs/Theorems.antt` proves each.
 -- The functions' contracts say that they answer what the definitions give, so these claims are about the functions.
--- In order: reading; quotients; extension and restriction; the check; translating.
+-- In order: reading; quotients; extension and restriction; the check; show; translating; words.
 -- Assumes nothing.
-use Prim.Native.Nat.{ℕ, _*_, _≤_}
+use Prim.Native.Nat.{ℕ, _+_, _*_, _≤_}
 use mathlib.Core.Path.{_≡_}
 use mathlib.Core.Logic.{_↔_}
-use mathlib.Core.List.{List}
+use mathlib.Core.List.{List, _∷_, _++_}
 use lib.Dec.{T}
 use lib.ListN.{length, take, drop}
 use Rattle.buffer.specs.Bytes.{Bytes}
@@ -14,17 +14,21 @@ use Rattle.literal.specs.declared.Limits.{Limits}
 use Rattle.literal.specs.declared.Literal.{Literal}
 use Rattle.literal.specs.Limits.{source, plain}
 use Rattle.semantics.specs.Set.{setOf}
-use Rattle.semantics.specs.Rule.{Program}
+use Rattle.semantics.specs.Rule.{Rule, Program}
 use Rattle.semantics.specs.Extension.{extension, restriction}
 use Rattle.semantics.specs.Translation.{translation, translationLength, translatedCounts}
 use Rattle.semantics.specs.Match.{FormMatch}
 use Rattle.semantics.specs.Meaning.{AnswerSet}
 use Rattle.semantics.specs.Verdict.{clash, broken, smaller, finding}
-use Rattle.semantics.proofs.Laws.Verdict.{FirstOpposed, BrokenAt, SmallerBy}
+use Rattle.semantics.specs.Findings.{FirstOpposed, BrokenAt, SmallerBy}
+use Rattle.record.specs.declared.Refusal.{Refusal}
 use Rattle.record.specs.declared.Written.the-variants.{Length}
 use Rattle.record.specs.Result.{accepted}
-use Rattle.record.specs.Layout.{encodedProgram, keeps}
-use Rattle.record.specs.Reading.{parsed}
+use Rattle.record.specs.Layout.{encodedRule, encodedRules, encodedProgram, keeps}
+use Rattle.record.specs.Reading.{parsed, reading}
+use Rattle.showing.specs.declared.Extent.{Extent}
+use Rattle.showing.specs.declared.Shown.the-variants.{At, Refused}
+use Rattle.showing.specs.Show.{shown, shownExtent}
 use Rattle.litset.specs.Layout.{ascending, encodedSet, keepsSet}
 use Rattle.litset.specs.Reading.{parsedSet}
 use Rattle.translate.specs.Translate.{translated}
@@ -35,6 +39,7 @@ use Rattle.judge.specs.declared.Verdict.the-variants.{Yes}
 use Rattle.verdict.specs.declared.Check.the-variants.{Found}
 use Rattle.judge.specs.Verdict.{verdictOf, witness}
 use Rattle.verdict.specs.Check.{checked}
+use Rattle.word.specs.Words.{ToldReading, ToldWritten, ToldShown, ToldCheck}
 
 -- demand 1, accepted half: reading in a form accepts exactly the encodings of programs within the form's limits
 abbrev pub Reads : Limits → Type 0
@@ -58,6 +63,8 @@ pub record Quotients (F : Limits) : Type 0 where
       → (out : List ℕ) → length (encodedProgram (quotientProgram p ls)) ≤ length out
       → quotiented F b k out ≡ record { answer = Length (length (encodedProgram (quotientProgram p ls))); buffer = write out 0 (encodedProgram (quotientProgram p ls)) }
   pub reads-back : (b : List ℕ) (p : Program) (ls : List Literal) → Bytes b → parsed F b ≡ accepted p → parsed plain (encodedProgram (quotientProgram p ls)) ≡ accepted (quotientProgram p ls)
+  -- it is no longer than its program
+  pub no-longer : (b : List ℕ) (p : Program) (ls : List Literal) → Bytes b → parsed F b ≡ accepted p → length (encodedProgram (quotientProgram p ls)) ≤ length b
 
 pub record Quotient : Type 0 where
   pub quotient-source : Quotients source
@@ -78,6 +85,11 @@ pub record Extending : Type 0 where
   pub writes-restriction : (k : List ℕ) (ls : List Literal) → parsedSet plain (plain .literals) k ≡ accepted ls → (out : List ℕ) → length (encodedSet (restrictionList ls)) ≤ length out
       → restricted plain k out ≡ record { answer = Length (length (encodedSet (restrictionList ls))); buffer = write out 0 (encodedSet (restrictionList ls)) }
   pub restricts : (ls : List Literal) → setOf (restrictionList ls) ≡ restriction (setOf ls)
+  -- an extension takes at most 25,484 bytes: 1,000 literals and 4,096 marks
+  pub at-most : (b k : List ℕ) (p : Program) (ls : List Literal) → Bytes b → Bytes k → parsed source b ≡ accepted p → parsedSet source (source .literals) k ≡ accepted ls
+      → length (encodedSet (extensionList p ls)) ≤ 25484
+  -- a restriction is no longer than its set
+  pub no-longer : (k : List ℕ) (ls : List Literal) → Bytes k → parsedSet plain (plain .literals) k ≡ accepted ls → length (encodedSet (restrictionList ls)) ≤ length k
 
 -- demand 2, the check in a form: of a program and a set that are read, with room for the set's record, the answer and the
 -- buffer are those of the finding, and the answer is yes exactly for an answer set
@@ -93,9 +105,24 @@ pub record Checks (F : Limits) : Type 0 where
 pub record Checking : Type 0 where
   pub check-source : Checks source
   pub check-plain : Checks plain
-  pub shows-clash : (p : Program) (ls : List Literal) (n : ℕ) → (finding p ls ≡ clash n) ↔ FirstOpposed p (setOf ls) 1 ls n
+  pub shows-clash : (p : Program) (ls : List Literal) (n : ℕ) → (finding p ls ≡ clash n) ↔ FirstOpposed (setOf ls) 1 ls n
   pub shows-broken : (p : Program) (ls : List Literal) (n : ℕ) → (finding p ls ≡ broken n) ↔ BrokenAt p ls n
   pub shows-smaller : (p : Program) (ls s : List Literal) → (finding p ls ≡ smaller s) ↔ SmallerBy p ls s
+
+-- demand 2, show in a form, of a program that is read and the number of one of its rules, r
+pub record Shows (F : Limits) : Type 0 where
+  -- its record lies behind those of the rules before it
+  pub finds : (b : List ℕ) (before : Program) (r : Rule) (after : Program) → Bytes b → parsed F b ≡ accepted (before ++ (r ∷ after))
+      → shown F b (length before + 1) ≡ At (record { start = length (encodedRules before); size = length (encodedRule r) })
+  -- the part that is handed back is that record
+  pub hands-back : (b : List ℕ) (before : Program) (r : Rule) (after : Program) → Bytes b → parsed F b ≡ accepted (before ++ (r ∷ after))
+      → (e : Extent) → shown F b (length before + 1) ≡ At e → take (e .size) (drop (e .start) b) ≡ encodedRule r
+  -- a refusal hands back the empty part at the slice's start
+  pub hands-back-nothing : (b : List ℕ) (n : ℕ) (x : Refusal) → shown F b n ≡ Refused x → shownExtent (shown F b n) ≡ record { start = 0; size = 0 }
+
+pub record Showing : Type 0 where
+  pub show-source : Shows source
+  pub show-plain : Shows plain
 
 -- demand 3, for the bytes b of a source that is read as p, and a lent buffer out that is long enough
 pub record Translates (b : List ℕ) (p : Program) (out : List ℕ) : Type 0 where
@@ -114,3 +141,20 @@ pub record Translating : Type 0 where
   pub rules : (b : List ℕ) (p : Program) → parsed source b ≡ accepted p → length (translation p) ≡ translatedCounts p
   -- the answer sets match one to one, for every set of source literals and every set of plain literals
   pub matches : (b : List ℕ) (p : Program) → Bytes b → parsed source b ≡ accepted p → FormMatch source plain p
+
+-- the words that the exports answer, in a form: a word is 2^63 or more exactly for a refusal, so that its highest bit tells a
+-- caller. The slices hold bytes; nothing is assumed of their lengths
+pub record Tells (F : Limits) : Type 0 where
+  -- the number of rules; a part's start and length; a quotient's length; a verdict
+  pub reads : (b : List ℕ) → Bytes b → ToldReading (reading F b)
+  pub shows : (b : List ℕ) (n : ℕ) → Bytes b → ToldShown (shown F b n)
+  pub quotients : (b k out : List ℕ) → Bytes b → ToldWritten (quotiented F b k out .answer)
+  pub checks : (b k out : List ℕ) → Bytes b → Bytes k → ToldCheck (checked F b k out .answer)
+
+pub record Words : Type 0 where
+  pub tells-source : Tells source
+  pub tells-plain : Tells plain
+  -- the lengths of what the operations of one form write
+  pub translates : (b out : List ℕ) → Bytes b → ToldWritten (translated source b out .answer)
+  pub extends : (b k out : List ℕ) → Bytes b → Bytes k → ToldWritten (extended source b k out .answer)
+  pub restricts : (k out : List ℕ) → Bytes k → ToldWritten (restricted plain k out .answer)

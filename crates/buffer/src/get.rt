@@ -6,7 +6,7 @@ ghost use lib.ListN.{length};
 ghost use Rattle.buffer.specs.Bytes.{number, numberAt};
 
 // The number that two bytes spell.
-pub fn join(high: u8, low: u8) -> u16
+fn join(high: u8, low: u8) -> u16
     ensures { λ r. ⌜ r ≡ number high low ⌝ }
 {
     high as u16 * 256 + low as u16

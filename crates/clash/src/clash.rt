@@ -1,13 +1,27 @@
 // The first literal of a set whose opposite is in the set.
 
-use buffer::get::get_number;
-use fields::order::make_key;
+use decode::sign::sign;
+use fields::field::get_atom;
+use fields::order::key_of;
+use literal::Literal;
+use literal::SignedAtom;
 use litset::search::holds;
 ghost use mathlib.Core.Path.{_≡_};
 ghost use Prim.Native.Nat.{_+_, _*_, _≤_};
 ghost use lib.ListN.{length};
-ghost use Rattle.litset.specs.Keys.{Ascends};
-ghost use Rattle.clash.specs.Clash.{opposedIn, clashAt};
+ghost use Rattle.literal.specs.Literal.{opposite};
+ghost use Rattle.litset.specs.Code.{Ascends};
+ghost use Rattle.clash.specs.Code.{opposedIn, clashAt};
+
+// The atom with the other sign.
+fn oppose(a: SignedAtom) -> SignedAtom
+    ensures { λ r. ⌜ r ≡ opposite a ⌝ }
+{
+    match a {
+        SignedAtom::Positive(p) => SignedAtom::Negative(p),
+        SignedAtom::Negative(p) => SignedAtom::Positive(p),
+    }
+}
 
 // Whether the opposite of the literal at the start of `t` is in the set. Kinds 0 and 1 are each other's opposite, marks
 // have none.
@@ -21,8 +35,9 @@ fn is_opposed(set: &[u8], n: usize, t: &[u8]) -> bool
     if 1 < kind {
         return false;
     }
-    let opposite = make_key(1 - kind, get_number(t, 1), get_number(t, 3));
-    holds(set, n, opposite)
+    let atom = sign(kind, get_atom(t, 3));
+    let opposite = Literal::Signed(oppose(atom));
+    holds(set, n, key_of(opposite))
 }
 
 // The position, from 1, of the first of the set's `n` literals whose opposite is in the set; 0 where there is none.

@@ -1,3 +1,1 @@
-pub mod Position
-pub mod Rule
-pub mod Build
+pub mod Code

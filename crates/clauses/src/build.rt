@@ -4,10 +4,11 @@
 use crate::Built;
 use crate::Clause;
 use crate::rule::clause_of;
+use literal::RuleNo;
 use record::size::record_size;
 ghost use mathlib.Core.Path.{_≡_};
 ghost use lib.ListN.{length};
-ghost use Rattle.clauses.specs.Build.{Buildable, isBroken, Clauses};
+ghost use Rattle.clauses.specs.Code.{Buildable, isBroken, Clauses};
 
 // Whether there is a clause that does not hold in the whole set.
 fn is_broken(c: Clause) -> bool
@@ -25,14 +26,14 @@ pub fn build(s: &[u8], set: &[u8], n: usize, bodies: &mut [u64], heads: &mut [u6
     ensures { λ r. ⌜ Clauses (now (s .entry)) (now (set .entry)) n r (now (bodies .exit)) (now (heads .exit)) ⌝ }
 {
     let mut at: usize = 0;
-    let mut number: usize = 1;
+    let mut number: u16 = 1;
     let mut count: usize = 0;
     while s[at] != b'E' {
         let part = &s[at..];
         let c = clause_of(part, set, n);
         if is_broken(c) {
             return Built {
-                broken: number,
+                broken: RuleNo(number),
                 count: 0,
             };
         }
@@ -43,5 +44,8 @@ pub fn build(s: &[u8], set: &[u8], n: usize, bodies: &mut [u64], heads: &mut [u6
         at += record_size(part);
         number += 1;
     }
-    Built { broken: 0, count }
+    Built {
+        broken: RuleNo(0),
+        count,
+    }
 }

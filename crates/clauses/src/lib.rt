@@ -1,13 +1,15 @@
 // A program's rules as clauses over the positions of a set's literals, and the first rule that is broken.
 
+use literal::RuleNo;
+
 pub mod build;
-pub mod masks;
-pub mod options;
-pub mod rule;
+mod masks;
+mod options;
+mod rule;
 
 // What building found: the number of the first broken rule, 0 where none is; else how many clauses were written.
 pub struct Built {
-    pub broken: usize,
+    pub broken: RuleNo,
     pub count: usize,
 }
 

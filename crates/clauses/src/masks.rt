@@ -10,8 +10,8 @@ ghost use mathlib.Core.Path.{_≡_};
 ghost use Prim.Native.Nat.{_+_, _*_, _≤_};
 ghost use lib.ListN.{length};
 ghost use Rattle.literal.specs.Order.{key};
-ghost use Rattle.litset.specs.Keys.{Ascends};
-ghost use Rattle.clauses.specs.Position.{keyMask, keysAt, union, positionsOf};
+ghost use Rattle.litset.specs.Code.{Ascends};
+ghost use Rattle.clauses.specs.Code.{keyMask, keysAt, union, positionsOf};
 
 // The position of the literal with this key, as a mask; empty where it is not in the set.
 fn mask_of(set: &[u8], n: usize, wanted: u64) -> u64

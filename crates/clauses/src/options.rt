@@ -11,10 +11,10 @@ ghost use mathlib.Core.Path.{_≡_};
 ghost use Prim.Native.Nat.{_+_, _*_, _≤_};
 ghost use lib.ListN.{length};
 ghost use Rattle.literal.specs.declared.Literal.the-variants.{Defeated};
-ghost use Rattle.litset.specs.Keys.{Ascends, keySet};
-ghost use Rattle.emit.specs.Options.{tagAt, optionAt};
-ghost use Rattle.remains.specs.Left.{leftAt};
-ghost use Rattle.clauses.specs.Rule.{leftOf};
+ghost use Rattle.litset.specs.Code.{Ascends, keySet};
+ghost use Rattle.emit.specs.Code.{tagAt, optionAt};
+ghost use Rattle.remains.specs.Code.{leftAt};
+ghost use Rattle.clauses.specs.Code.{leftOf};
 
 // Whether the defeat mark of the option at a place is in the set.
 fn is_defeated(t: &[u8], at: usize, set: &[u8], n: usize) -> bool

@@ -8,9 +8,9 @@ use litset::member::is_any_member;
 ghost use mathlib.Core.Path.{_≡_};
 ghost use Prim.Native.Nat.{_+_, _*_, _≤_};
 ghost use lib.ListN.{length, getD};
-ghost use Rattle.record.specs.Size.{recordSize};
-ghost use Rattle.litset.specs.Keys.{Ascends, anyKey};
-ghost use Rattle.clauses.specs.Rule.{noClause, clauseWith, clauseAt};
+ghost use Rattle.record.specs.Code.{recordSize};
+ghost use Rattle.litset.specs.Code.{Ascends, anyKey};
+ghost use Rattle.clauses.specs.Code.{noClause, clauseWith, clauseAt};
 
 // No clause.
 fn no_clause() -> Clause

@@ -1,6 +1,6 @@
-// Five bytes as a literal of a form, or as none.
+// Five bytes asked whether they are a literal of a form: the kind byte first, then what stands behind it.
 
-pub mod decode;
+mod kind;
 pub mod range;
-pub mod spell;
+pub mod sign;
 pub mod valid;

@@ -1,44 +1,37 @@
-// The ranges of a form: whether it takes a literal.
+// Tags, atoms and rule numbers in their ranges.
 
-use fields::field::kind_of;
-use fields::field::number_of;
 use literal::Limits;
-use literal::Literal;
-use literal::SignedAtom;
+use literal::Ranges;
 use literal::Tag;
 ghost use mathlib.Core.Path.{_≡_};
-ghost use mathlib.Core.Bool.{_&&_};
-ghost use Rattle.literal.specs.Literal.{atomNumber, inRange, takes};
+ghost use Rattle.literal.specs.Literal.{inRange};
+ghost use Rattle.literal.specs.Code.{inSpan, unpacked};
 
 // From 1 to a largest value.
-pub fn is_in_range(most: u16, n: u16) -> bool
+fn is_in_range(most: u64, n: u16) -> bool
     ensures { λ r. ⌜ r ≡ inRange most n ⌝ }
 {
-    1 <= n && n <= most
+    1 <= n && n as u64 <= most
 }
 
-// Whether a mark's tag and atom are in their ranges.
-fn is_mark_in_range(lim: Limits, t: Tag, a: SignedAtom) -> bool
-    ensures { λ r. ⌜ r ≡ (inRange (lim .tags) (t .0) && inRange (lim .atoms) (atomNumber a)) ⌝ }
+// Whether the form has the tag.
+pub fn is_tag(lim: Limits, tag: Tag) -> bool
+    ensures { λ r. ⌜ r ≡ inRange (lim .tags) (tag .0) ⌝ }
 {
-    if is_in_range(lim.tags, t.0) {
-        is_in_range(lim.atoms, number_of(a))
-    } else {
-        false
-    }
+    is_in_range(lim.tags as u64, tag.0)
 }
 
-// Whether the form takes the literal.
-pub fn is_taken(lim: Limits, l: Literal) -> bool
-    ensures { λ r. ⌜ r ≡ takes lim l ⌝ }
+// Whether a tag and a number may stand where these ranges are due.
+pub fn are_in_ranges(ranges: Ranges, tag: Tag, number: u16) -> bool
+    ensures { λ r. ⌜ r ≡ inSpan (unpacked ranges) (tag .0) number ⌝ }
 {
-    if lim.kinds < kind_of(l) {
+    let bounds = ranges.0;
+    let t = tag.0 as u64;
+    if t < bounds / 4294967296 {
         return false;
     }
-    match l {
-        Literal::Signed(a) => is_in_range(lim.atoms, number_of(a)),
-        Literal::Defeated(t, a) => is_mark_in_range(lim, t, a),
-        Literal::Derived(t, a) => is_mark_in_range(lim, t, a),
-        Literal::RuleDefeated(n) => is_in_range(lim.numbers, n.0),
+    if bounds / 65536 % 65536 < t {
+        return false;
     }
+    is_in_range(bounds % 65536, number)
 }

@@ -1,3 +1,1 @@
-pub mod Header
-pub mod Starts
-pub mod Options
+pub mod Code

@@ -1,20 +1,21 @@
 // The tag and the options in a rule's record.
 
-use buffer::get::get_number;
-use decode::spell::sign;
+use decode::sign::sign;
+use fields::field::get_atom;
+use fields::field::get_tag;
 use literal::SignedAtom;
 use literal::Tag;
 ghost use mathlib.Core.Path.{_≡_};
 ghost use Prim.Native.Nat.{_+_, _≤_};
 ghost use lib.ListN.{length};
-ghost use Rattle.emit.specs.Options.{tagAt, optionAt};
+ghost use Rattle.emit.specs.Code.{tagAt, optionAt};
 
 // The tag of the record at the slice's start.
 pub fn tag_at(s: &[u8]) -> Tag
     requires { ⌜ 4 ≤ length (now s) ⌝ }
     ensures { λ r. ⌜ r ≡ tagAt (now (s .entry)) ⌝ }
 {
-    Tag(get_number(s, 2))
+    get_tag(s, 2)
 }
 
 // The option whose five bytes start at a place.
@@ -22,5 +23,5 @@ pub fn option_at(s: &[u8], at: usize) -> SignedAtom
     requires { ⌜ at + 5 ≤ length (now s) ⌝ }
     ensures { λ r. ⌜ r ≡ optionAt (now (s .entry)) at ⌝ }
 {
-    sign(s[at], get_number(s, at + 3))
+    sign(s[at], get_atom(s, at + 3))
 }

@@ -6,7 +6,7 @@ ghost use Prim.Native.Nat.{_+_, _≤_};
 ghost use lib.ListN.{length};
 ghost use Rattle.buffer.specs.Write.{write};
 ghost use Rattle.record.specs.Layout.{encodedEnd};
-ghost use Rattle.emit.specs.Header.{header};
+ghost use Rattle.emit.specs.Code.{header};
 
 // The header of a strict rule's record.
 pub fn write_header(heads: u8, positives: u8, nafs: u8, out: &mut [u8], to: usize)

@@ -5,7 +5,7 @@ use mathlib.Core.Path.{refl}
 use lib.Dec.{T}
 use Rattle.buffer.specs.Write.{write}
 use Rattle.literal.specs.Limits.{source, plain}
-use Rattle.literal.specs.Literal.{kind, tagField, atomField, encoded, negatedKind, ranged, takes, signedAtom, spelled, within, decoded, opposite}
+use Rattle.literal.specs.Literal.{mostKind, kind, tagField, atomField, encoded, negatedKind, ranged, takes, signedAtom, spelled, within, decoded, opposite}
 use Rattle.literal.specs.Order.{bytesBefore, key, before}
 use Rattle.semantics.specs.Meaning.{undefeated, unlessEmpty, remainder, withRemainder, quotient, holds, satisfied, models}
 use Rattle.semantics.specs.Translation.{choice, allDefeated, holdsIfDerived, derivedIfHolds, neverBoth, option, options, translatedRule, translationFrom, translation}
@@ -19,6 +19,7 @@ use Rattle.record.specs.Layout.{encodedLiterals, ruleRecord, encodedRule, encod
 use Rattle.record.specs.Reading.{literalsAt, optionsOf, defeasibleRule, ruleOf, tagRight, bodyAt, ruleAt, endAt, marked, pickMark, markAt, markedRecord, recordAt, rulesFrom, parsed}
 use Rattle.litset.specs.Layout.{encodedSet}
 use Rattle.litset.specs.Reading.{membersAt, setShape, parsedSet}
+use Rattle.inputs.specs.Inputs.{withInputs}
 use Rattle.translate.specs.Translate.{translatedBytes, translated}
 use Rattle.printing.specs.Filter.{inputSize, printed, filtered}
 use Rattle.marks.specs.Marks.{derivedMarks, ruleMarks, marksFrom}
@@ -33,7 +34,7 @@ exactly-four = tt
 
 -- M1 to M9
 pub examples-hold : AllSay examples
-unfolding Says examples write source plain kind tagField atomField encoded negatedKind ranged takes signedAtom spelled within decoded opposite bytesBefore key before undefeated unlessEmpty remainder withRemainder quotient holds satisfied models choice allDefeated holdsIfDerived derivedIfHolds neverBoth option options translatedRule translationFrom translation defeatedRule keepsCounts opposed clashFrom brokenFrom orElse withLiteral firstSubset smallerModel finding shifted encodedRefusal andThen refuseIf delivered encodedLiterals ruleRecord encodedRule encodedRules encodedEnd encodedProgram literalsAt optionsOf defeasibleRule ruleOf tagRight bodyAt ruleAt endAt marked pickMark markAt markedRecord recordAt rulesFrom parsed encodedSet membersAt setShape parsedSet translatedBytes translated inputSize printed filtered derivedMarks ruleMarks marksFrom inserted sorted extensionList extensionBytes extended found verdictOf witness checkedOf checked
+unfolding Says examples write source plain kind tagField atomField encoded negatedKind ranged mostKind takes signedAtom spelled within decoded opposite bytesBefore key before undefeated unlessEmpty remainder withRemainder quotient holds satisfied models choice allDefeated holdsIfDerived derivedIfHolds neverBoth option options translatedRule translationFrom translation defeatedRule keepsCounts opposed clashFrom brokenFrom orElse withLiteral firstSubset smallerModel finding shifted encodedRefusal andThen refuseIf delivered encodedLiterals ruleRecord encodedRule encodedRules encodedEnd encodedProgram literalsAt optionsOf defeasibleRule ruleOf tagRight bodyAt ruleAt endAt marked pickMark markAt markedRecord recordAt rulesFrom parsed encodedSet membersAt setShape parsedSet translatedBytes translated inputSize printed filtered derivedMarks ruleMarks marksFrom inserted sorted extensionList withInputs extensionBytes extended found verdictOf witness checkedOf checked
 examples-hold = (
   refl,
   (

@@ -131,7 +131,7 @@ examples =
     -- M7
     (check (encodedProgram []) (is 1 ∷ (isNot 1 ∷ [])) (Clash 1) (replicate 14 0) ∷
     -- M8
-    (check (encodedProgram (so [] [] ∷ [])) [] (Broken 1) (replicate 4 0) ∷
+    (check (encodedProgram (so [] [] ∷ [])) [] (Broken (record { 0 = 1 })) (replicate 4 0) ∷
     -- M9
     (check (0x45 ∷ (0x3A ∷ (0 ∷ (0 ∷ [])))) [] Yes (replicate 4 0) ∷
     (check (0x45 ∷ (0x3A ∷ (0 ∷ (0 ∷ [])))) (is 1 ∷ []) (Smaller 4) (encodedSet [] ++ replicate 5 0) ∷ [])))))))))

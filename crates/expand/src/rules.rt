@@ -18,10 +18,9 @@ ghost use Rattle.literal.specs.declared.Literal.{Literal};
 ghost use Rattle.semantics.specs.Rule.{Rule, strict, defeasible};
 ghost use Rattle.semantics.specs.Translation.{choice, allDefeated, translatedRule};
 ghost use Rattle.record.specs.Layout.{encodedRule, encodedRules};
-ghost use Rattle.record.specs.Size.{recordSize};
-ghost use Rattle.emit.specs.Starts.{Starts};
-ghost use Rattle.emit.specs.Options.{tagAt, optionsAt};
-ghost use Rattle.expand.specs.Writing.{lengthAt, countAt};
+ghost use Rattle.record.specs.Code.{recordSize};
+ghost use Rattle.emit.specs.Code.{Starts, tagAt, optionsAt};
+ghost use Rattle.expand.specs.Code.{lengthAt, countAt};
 
 // The length of the rule's translation.
 pub fn measure_rule(s: &[u8]) -> usize

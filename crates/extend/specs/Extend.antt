@@ -9,10 +9,9 @@ use Rattle.literal.specs.declared.Literal.{Literal}
 use Rattle.literal.specs.Order.{before}
 use Rattle.semantics.specs.Set.{setOf}
 use Rattle.semantics.specs.Rule.{Program}
-use Rattle.record.specs.Result.{Result, accepted, andThen, Outcome, delivered}
-use Rattle.record.specs.Reading.{parsed}
+use Rattle.record.specs.Result.{Result, accepted, Outcome, delivered}
 use Rattle.litset.specs.Layout.{encodedSet}
-use Rattle.litset.specs.Reading.{parsedSet}
+use Rattle.inputs.specs.Inputs.{withInputs}
 use Rattle.marks.specs.Marks.{marksFrom}
 
 -- an ascending list with one literal more, once
@@ -33,10 +32,7 @@ unfoldable pub extensionList : Program → List Literal → List Literal
 extensionList p ls = ls ++ sorted (marksFrom 1 p (setOf ls))
 
 unfoldable pub extensionBytes : Limits → List ℕ → List ℕ → Result (List ℕ)
-extensionBytes F s k =
-    andThen (parsed F s) (λ p.
-    andThen (parsedSet F (F .literals) k) (λ ls.
-    accepted (encodedSet (extensionList p ls))))
+extensionBytes F s k = withInputs F (F .literals) s k (λ p ls. accepted (encodedSet (extensionList p ls)))
 
 unfoldable pub extended : Limits → List ℕ → List ℕ → List ℕ → Outcome
 extended F s k out = delivered (extensionBytes F s k) out

@@ -1,16 +1,12 @@
 // The extension of a source set: the program and the set are read, the marks gathered and sorted, and the record written.
 
 use emit::copy::copy;
+use inputs::read::read_inputs;
 use keys::write::write_keys;
 use literal::Limits;
 use literal::form::Source;
-use litset::SetReading;
-use litset::answer::refused_program;
-use litset::answer::refused_set;
 use litset::header::write_set_header;
-use litset::read::read_set;
 use marks::marks::collect_marks;
-use reading::read::read;
 use record::Reading;
 use record::Reason;
 use record::Refusal;
@@ -25,13 +21,14 @@ ghost use Rattle.literal.specs.Order.{key};
 ghost use Rattle.literal.specs.Limits.{source};
 ghost use Rattle.record.specs.Meets.{Meets};
 ghost use Rattle.keys.specs.Keys.{sortedKeys};
-ghost use Rattle.keys.specs.Bytes.{Fitting};
-ghost use Rattle.sorting.specs.Sort.{Sorted};
-ghost use Rattle.litset.specs.Keys.{Ascends, keySet};
+ghost use Rattle.keys.specs.Code.{Fitting};
+ghost use Rattle.sorting.specs.Code.{Sorted};
+ghost use Rattle.litset.specs.Code.{Ascends, keySet};
+ghost use Rattle.inputs.specs.Code.{Inputs};
 ghost use Rattle.marks.specs.Marks.{marksFrom};
-ghost use Rattle.marks.specs.Collect.{Marking};
+ghost use Rattle.marks.specs.Code.{Marking};
 ghost use Rattle.extend.specs.Extend.{extended};
-ghost use Rattle.extend.specs.Extending.{most, Extendable, Extending, joined};
+ghost use Rattle.extend.specs.Code.{most, Extendable, joined};
 
 // The marks that a source's rules may add: no more than a rule has options.
 const MOST: usize = 4096;
@@ -68,7 +65,7 @@ fn write_joined(set: &[u8], count: usize, keys: &[u64], n: usize, out: &mut [u8]
 // The extension of the set that `set` holds, for the program that `s` holds.
 fn write_extension(lim: Limits, s: &[u8], set: &[u8], count: usize, out: &mut [u8]) -> Written
     requires { ⌜ Extendable lim ⌝ }
-    requires { ⌜ Extending lim (now s) (now set) count ⌝ }
+    requires { ⌜ Inputs lim (lim .literals) (now s) (now set) count ⌝ }
     ensures { λ r. ⌜ Meets (extended lim (now (s .entry)) (now (set .entry)) (now (out .entry))) r (now (out .exit)) ⌝ }
 {
     let mut keys = [0u64; MOST];
@@ -85,20 +82,15 @@ fn write_extension(lim: Limits, s: &[u8], set: &[u8], count: usize, out: &mut [u
 }
 
 // The extension of the set in `k`, for the program in `s`, both in a form, written to the start of `out`.
-pub fn extend(lim: Limits, s: &[u8], k: &[u8], out: &mut [u8]) -> Written
+fn extend(lim: Limits, s: &[u8], k: &[u8], out: &mut [u8]) -> Written
     requires { ⌜ Extendable lim ⌝ }
     ensures { λ r. ⌜ Meets (extended lim (now (s .entry)) (now (k .entry)) (now (out .entry))) r (now (out .exit)) ⌝ }
 {
-    let a = read(lim, s);
-    let Reading::Rules(_) = a else {
-        return refused_program(a);
-    };
-    let most = lim.literals;
-    let b = read_set(lim, most, k);
-    let SetReading::Literals(count) = b else {
-        return refused_set(b);
-    };
-    write_extension(lim, s, k, count, out)
+    let inputs = read_inputs(lim, lim.literals, s, k);
+    match inputs {
+        Reading::Refused(x) => Written::Refused(x),
+        Reading::Count(count) => write_extension(lim, s, k, count, out),
+    }
 }
 
 // The extension of a source set.

@@ -1,8 +1,6 @@
 // A literal put into a lent slice.
 
-use crate::field::atom_of;
-use crate::field::kind_of;
-use crate::field::tag_of;
+use crate::field::fields_of;
 use buffer::put::put_byte;
 use buffer::put::put_number;
 use literal::Literal;
@@ -17,7 +15,8 @@ pub fn encode(l: Literal, out: &mut [u8], at: usize)
     requires { ⌜ at + 5 ≤ length (now out) ⌝ }
     ensures { λ _. ⌜ now (out .exit) ≡ write (now (out .entry)) at (encoded l) ⌝ }
 {
-    put_byte(out, at, kind_of(l));
-    put_number(out, at + 1, tag_of(l));
-    put_number(out, at + 3, atom_of(l));
+    let f = fields_of(l);
+    put_byte(out, at, f.kind);
+    put_number(out, at + 1, f.tag.0);
+    put_number(out, at + 3, f.number);
 }

@@ -11,7 +11,7 @@ use Rattle.judge.specs.declared.Verdict.the-variants.{Clash, Broken, Sma
 -- the verdict, with its position, rule or length
 unfoldable pub verdictOf : Finding → Verdict
 verdictOf (clash k) = Clash k
-verdictOf (broken n) = Broken n
+verdictOf (broken n) = Broken (record { 0 = n })
 verdictOf (smaller ls) = Smaller (length (encodedSet ls))
 verdictOf answerSet = Yes
 

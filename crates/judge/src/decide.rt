@@ -6,7 +6,7 @@ use search::find::find_smaller;
 use witness::witness::write_picked;
 ghost use Prim.Native.Nat.{_+_, _*_, _≤_};
 ghost use lib.ListN.{length};
-ghost use Rattle.judge.specs.Decide.{Decided};
+ghost use Rattle.judge.specs.Code.{Decided};
 
 // Seeks the first smaller model of the set's `n` literals over `count` clauses, and writes it to the start of `out`.
 pub fn decide(

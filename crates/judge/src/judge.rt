@@ -5,7 +5,7 @@ use crate::decide::decide;
 use clash::clash::find_clash;
 use clauses::build::build;
 ghost use lib.ListN.{length};
-ghost use Rattle.judge.specs.Decide.{Judgeable, Judged};
+ghost use Rattle.judge.specs.Code.{Judgeable, Judged};
 
 // Judges the set with `n` literals in `k` against the program in `s`. The clauses go to `bodies` and `heads`; a smaller model
 // is written to the start of `out`.
@@ -26,7 +26,7 @@ pub fn judge(
     }
     let built = build(s, k, n, bodies, heads);
     let broken = built.broken;
-    if 0 < broken {
+    if 0 < broken.0 {
         return Verdict::Broken(broken);
     }
     decide(k, n, bodies, heads, built.count, out)

@@ -6,7 +6,7 @@ ghost use mathlib.Core.Path.{_≡_};
 ghost use Prim.Native.Nat.{_+_, _*_, _≤_, _<_};
 ghost use lib.ListN.{length, take};
 ghost use Rattle.buffer.specs.Write.{write};
-ghost use Rattle.keys.specs.Bytes.{bytesOf, keyBytes, Fitting};
+ghost use Rattle.keys.specs.Code.{bytesOf, keyBytes, Fitting};
 
 // The five bytes of a key, put at a place.
 fn write_key(key: u64, out: &mut [u8], at: usize)

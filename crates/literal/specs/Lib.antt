@@ -1,3 +1,4 @@
 pub mod Limits
 pub mod Literal
 pub mod Order
+pub mod Code

@@ -4,6 +4,7 @@
 use Prim.Native.Nat.{ℕ}
 use mathlib.Core.Bool.{true, false}
 use Rattle.literal.specs.declared.Limits.{Limits}
+use Rattle.literal.specs.declared.Kinds.the-variants.{SourceKinds, PlainKinds}
 
 -- the rules of the largest programs; arrays with a place for each rule have this length
 abbrev pub sourceRules : ℕ
@@ -21,7 +22,7 @@ source =
       positives = 16;
       nafs = 16;
       defeasible = true;
-      kinds = 3;
+      kinds = SourceKinds;
       atoms = 500;
       tags = 200;
       numbers = 256;
@@ -38,7 +39,7 @@ plain =
       positives = 16;
       nafs = 17;
       defeasible = false;
-      kinds = 6;
+      kinds = PlainKinds;
       atoms = 500;
       tags = 200;
       numbers = 256;

@@ -1,9 +1,9 @@
 -- A literal and its five bytes (01, "Records": kind, tag, atom), in either form.
--- In order: a literal's three fields and its bytes; the literals that a form takes; what five bytes spell in a form, and
--- whether they spell anything; opposite literals. Not here: the order of literals (`Order`), the forms' figures (`Limits`).
+-- In order: a literal's three fields and its bytes; the literals that a form takes; what five bytes spell in a form; opposite
+-- literals. Not here: the order of literals (`Order`), the forms' figures (`Limits`), how code asks (`Code`).
 -- Assumes nothing.
 use Prim.Native.Nat.{ℕ}
-use mathlib.Core.Bool.{Bool, true, false, cond, _&&_, _||_}
+use mathlib.Core.Bool.{Bool, cond, _&&_, _||_}
 use mathlib.Core.List.{List, _∷_, _++_}
 use lib.Dec.{leb, eqb}
 use lib.ListN.{getD}
@@ -13,8 +13,8 @@ use Rattle.literal.specs.declared.SignedAtom.{SignedAtom}
 use Rattle.literal.specs.declared.SignedAtom.the-variants.{Positive, Negative}
 use Rattle.literal.specs.declared.Literal.{Literal}
 use Rattle.literal.specs.declared.Literal.the-variants.{Signed, Defeated, Derived, RuleDefeated}
-use Rattle.literal.specs.declared.Decoded.{Decoded}
-use Rattle.literal.specs.declared.Decoded.the-variants.{Valid, Wrong}
+use Rattle.literal.specs.declared.Kinds.{Kinds}
+use Rattle.literal.specs.declared.Kinds.the-variants.{SourceKinds, PlainKinds}
 
 -- the number of the atom under the sign
 abbrev pub atomNumber : SignedAtom → ℕ
@@ -64,9 +64,19 @@ ranged F (Defeated t a) = inRange (F .tags) (t .0) && inRange (F .atoms) (atomNu
 ranged F (Derived t a) = inRange (F .tags) (t .0) && inRange (F .atoms) (atomNumber a)
 ranged F (RuleDefeated n) = inRange (F .numbers) (n .0)
 
+-- the largest kind of a source's literals, and of a plain program's
+unfoldable pub mostKind : Kinds → ℕ
+mostKind SourceKinds = 3
+mostKind PlainKinds = 6
+
 -- the form takes this literal: its kind, its tag and its atom or rule number are the form's
 unfoldable pub takes : Limits → Literal → Bool
-takes F l = leb (kind l) (F .kinds) && ranged F l
+takes F l = leb (kind l) (mostKind (F .kinds)) && ranged F l
+
+-- what bytes spell: a literal, or none
+pub data Decoded : Type 0 where
+  Valid : Literal → Decoded
+  Wrong : Decoded
 
 -- an atom with the sign of a kind
 unfoldable pub signedAtom : ℕ → ℕ → SignedAtom
@@ -88,26 +98,6 @@ within F Wrong = Wrong
 -- what the first five bytes of bs spell in a form
 unfoldable pub decoded : Limits → List ℕ → Decoded
 decoded F bs = within F (spelled (getD bs 0 0) (numberAt bs 1) (numberAt bs 3))
-
--- five bytes are right in a form where they spell a literal
-unfoldable pub isValid : Decoded → Bool
-isValid (Valid l) = true
-isValid Wrong = false
-
--- the tags of a kind run from 1 where it is a mark's, and are 0 else; the atom field holds a rule number in kind 6 alone
-unfoldable pub leastTag : ℕ → ℕ
-leastTag k = cond (leb 2 k && leb k 5) 1 0
-
-unfoldable pub mostTag : Limits → ℕ → ℕ
-mostTag F k = cond (leb 2 k && leb k 5) (F .tags) 0
-
-unfoldable pub mostNumber : Limits → ℕ → ℕ
-mostNumber F k = cond (eqb k 6) (F .numbers) (F .atoms)
-
--- three fields are those of a literal of the form: the same question as `isValid`, without making the literal
-unfoldable pub fieldsRight : Limits → ℕ → ℕ → ℕ → Bool
-fieldsRight F k t a =
-    leb k (F .kinds) && (leb k 6 && (leb (leastTag k) t && (leb t (mostTag F k) && inRange (mostNumber F k) a)))
 
 -- an atom and its explicit negation are opposite; marks have no opposite
 unfoldable pub opposite : SignedAtom → SignedAtom

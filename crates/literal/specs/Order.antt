@@ -1,13 +1,10 @@
 -- The order of literals, that of their byte strings (01, "Records": strictly ascending as byte strings).
--- In order: the order of byte strings; a literal as one number, and five bytes as one number; where these
--- numbers end; the order of literals.
+-- In order: the order of byte strings; a literal as one number; the order of literals.
 -- Assumes nothing.
 use Prim.Native.Nat.{ℕ, _+_, _*_}
 use mathlib.Core.Bool.{Bool, true, false, _&&_, _||_}
 use mathlib.Core.List.{List, [], _∷_}
 use lib.Dec.{ltb, eqb}
-use lib.ListN.{getD}
-use Rattle.buffer.specs.Bytes.{numberAt}
 use Rattle.literal.specs.declared.Literal.{Literal}
 use Rattle.literal.specs.Literal.{kind, tagField, atomField}
 
@@ -21,16 +18,9 @@ bytesBefore (b ∷ bs) (c ∷ cs) = ltb b c || (eqb b c && bytesBefore bs cs)
 abbrev pub keyOf : ℕ → ℕ → ℕ → ℕ
 keyOf k t a = (k * 65536 + t) * 65536 + a
 
--- a literal's key, and the key that five bytes spell
+-- a literal's key
 unfoldable pub key : Literal → ℕ
 key l = keyOf (kind l) (tagField l) (atomField l)
-
-unfoldable pub keyAt : List ℕ → ℕ
-keyAt bs = keyOf (getD bs 0 0) (numberAt bs 1) (numberAt bs 3)
-
--- one more than the largest key of five bytes
-abbrev pub keyRoom : ℕ
-keyRoom = 1099511627776
 
 -- the order of literals
 unfoldable pub before : Literal → Literal → Bool

@@ -1,5 +1,6 @@
 // The two forms of programs. Each owns its row of limits.
 
+use crate::Kinds;
 use crate::Limits;
 ghost use mathlib.Core.Path.{_≡_};
 ghost use Rattle.literal.specs.Limits.{plain, source};
@@ -20,7 +21,7 @@ impl Source {
 
     pub const DEFEASIBLE: bool = true;
 
-    pub const KINDS: u8 = 3;
+    pub const KINDS: Kinds = Kinds::SourceKinds;
 
     pub const ATOMS: u16 = 500;
 
@@ -68,7 +69,7 @@ impl Plain {
 
     pub const DEFEASIBLE: bool = false;
 
-    pub const KINDS: u8 = 6;
+    pub const KINDS: Kinds = Kinds::PlainKinds;
 
     pub const ATOMS: u16 = 500;
 

@@ -28,11 +28,25 @@ pub enum Literal {
     RuleDefeated(RuleNo),
 }
 
-// What five bytes spell in a form.
-pub enum Decoded {
-    Valid(Literal),
-    Wrong,
+// The three fields that five bytes spell. What the third is, an atom or a rule's number, the kind says.
+pub struct Fields {
+    pub kind: u8,
+    // 0 where no tag is due.
+    pub tag: Tag,
+    pub number: u16,
 }
+
+// The kinds of literals that a form has.
+pub enum Kinds {
+    // 0 to 3: what a program is about, and defeat marks.
+    SourceKinds,
+    // 0 to 6: the marks of a translation too.
+    PlainKinds,
+}
+
+// What may stand behind a kind byte: tags from a lowest to a highest one, and atoms or rule numbers from 1 to a largest one. The
+// three bounds are one number, two bytes each, so that the kind picks them at once. Where no number may stand, nothing may.
+pub struct Ranges(pub u64);
 
 // A form's row of limits: the largest values that it takes.
 pub struct Limits {
@@ -45,8 +59,8 @@ pub struct Limits {
     pub nafs: usize,
     // Whether the form has defeasible rules.
     pub defeasible: bool,
-    // The largest kind of a literal.
-    pub kinds: u8,
+    // The kinds of its literals.
+    pub kinds: Kinds,
     // The largest atom, tag, and rule number in a rule-defeated mark.
     pub atoms: u16,
     pub tags: u16,

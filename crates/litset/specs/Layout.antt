@@ -11,7 +11,7 @@ use Rattle.literal.specs.declared.Limits.{Limits}
 use Rattle.literal.specs.declared.Literal.{Literal}
 use Rattle.literal.specs.Literal.{takes}
 use Rattle.literal.specs.Order.{before}
-use Rattle.semantics.specs.Set.{all}
+use Rattle.semantics.specs.Set.{eachOf}
 use Rattle.record.specs.Layout.{colon, encodedLiterals}
 
 -- each literal is below the next
@@ -26,4 +26,4 @@ encodedSet ls = 0x41 ∷ (colon ∷ (twoBytes (length ls) ++ encodedLiterals ls)
 
 -- literals of the form in ascending order, no more than `most`, and no more than two bytes count
 unfoldable pub keepsSet : Limits → ℕ → List Literal → Bool
-keepsSet F most ls = ascending ls && (all (takes F) ls && (leb (length ls) most && ltb (length ls) 65536))
+keepsSet F most ls = ascending ls && (eachOf (takes F) ls && (leb (length ls) most && ltb (length ls) 65536))

@@ -1,6 +1,3 @@
 pub mod Layout
 pub mod Reading
 pub mod Code
-pub mod Keys
-pub mod Answer
-pub mod Header

@@ -1,5 +1,5 @@
 -- Reading a set in a form (01, "Quotient": 10, 12, 11 in this order).
--- In order: the literals one behind the other; the set; the reader's answer.
+-- In order: the literals one behind the other; the set. Not here: the reader's answer (`Code`).
 -- Assumes nothing.
 use Prim.Native.Nat.{ℕ, zero, suc, _+_, _*_}
 use mathlib.Core.Bool.{Bool, true, false, not, _&&_}
@@ -9,15 +9,12 @@ use lib.ListN.{length, getD, take, drop}
 use Rattle.buffer.specs.Bytes.{numberAt}
 use Rattle.literal.specs.declared.Limits.{Limits}
 use Rattle.literal.specs.declared.Literal.{Literal}
-use Rattle.literal.specs.declared.Decoded.the-variants.{Valid, Wrong}
-use Rattle.literal.specs.Literal.{decoded}
+use Rattle.literal.specs.Literal.{Valid, Wrong, decoded}
 use Rattle.literal.specs.Order.{bytesBefore}
 use Rattle.record.specs.declared.Reason.the-variants.{SetWrong, SetTooLarge, MemberWrong}
 use Rattle.record.specs.Refusal.{refusal}
 use Rattle.record.specs.Result.{Result, accepted, refused, andThen, refuseIf}
 use Rattle.record.specs.Layout.{colon}
-use Rattle.litset.specs.declared.SetReading.{SetReading}
-use Rattle.litset.specs.declared.SetReading.the-variants.{Literals, Refused}
 
 -- n literals from `at` on, behind the literal whose bytes are `last` (no bytes before the first: they come before all
 -- others); 11 at the first byte of the first that is not the form's or not above the one before
@@ -44,11 +41,3 @@ parsedSet F most s =
     refuseIf (not (setShape s)) (refusal SetWrong 0)
     (refuseIf (ltb most (numberAt s 2)) (refusal SetTooLarge 0)
     (membersAt F s 4 [] (numberAt s 2)))
-
--- the answer: the number of literals
-unfoldable pub setReadingOf : Result (List Literal) → SetReading
-setReadingOf (accepted ls) = Literals (length ls)
-setReadingOf (refused x) = Refused x
-
-unfoldable pub setReading : Limits → ℕ → List ℕ → SetReading
-setReading F most s = setReadingOf (parsedSet F most s)

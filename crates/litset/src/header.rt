@@ -5,7 +5,7 @@ ghost use mathlib.Core.Path.{_≡_};
 ghost use Prim.Native.Nat.{_≤_};
 ghost use lib.ListN.{length};
 ghost use Rattle.buffer.specs.Write.{write};
-ghost use Rattle.litset.specs.Header.{setHeader};
+ghost use Rattle.litset.specs.Code.{setHeader};
 
 // The mark and the number of literals, at the slice's start.
 pub fn write_set_header(count: u16, out: &mut [u8])

@@ -7,7 +7,7 @@ use literal::Literal;
 ghost use mathlib.Core.Path.{_≡_};
 ghost use Prim.Native.Nat.{_+_, _*_, _≤_};
 ghost use lib.ListN.{length};
-ghost use Rattle.litset.specs.Keys.{Ascends, keySet, anyKey};
+ghost use Rattle.litset.specs.Code.{Ascends, keySet, anyKey};
 
 // Whether the literal is in the set.
 pub fn is_member(set: &[u8], count: usize, l: Literal) -> bool

@@ -1,10 +1,10 @@
 // Reading a set: its mark and length, its count, then its literals in one pass.
 
-use crate::SetReading;
 use buffer::get::get_number;
 use decode::valid::is_literal;
 use fields::order::key_at;
 use literal::Limits;
+use record::Reading;
 use record::Reason;
 use record::Refusal;
 use record::Run;
@@ -12,14 +12,14 @@ ghost use mathlib.Core.Path.{_≡_};
 ghost use Prim.Native.Nat.{_+_, _*_, _≤_};
 ghost use lib.ListN.{length};
 ghost use Rattle.record.specs.Refusal.{refusal};
-ghost use Rattle.litset.specs.Reading.{setShape, setReading};
-ghost use Rattle.litset.specs.Code.{membersAbove};
+ghost use Rattle.litset.specs.Reading.{setShape};
+ghost use Rattle.litset.specs.Code.{setReading, membersAbove};
 
 // A refusal of the whole set, at its first byte.
-fn refuse(reason: Reason) -> SetReading
-    ensures { λ r. ⌜ r ≡ SetReading.Refused (refusal reason 0) ⌝ }
+fn refuse(reason: Reason) -> Reading
+    ensures { λ r. ⌜ r ≡ Reading.Refused (refusal reason 0) ⌝ }
 {
-    SetReading::Refused(Refusal { reason, place: 0 })
+    Reading::Refused(Refusal { reason, place: 0 })
 }
 
 // A refusal of the literal at a place.
@@ -74,7 +74,7 @@ fn read_members(lim: Limits, s: &[u8], count: usize) -> Run
 }
 
 // A set of at most `most` literals of the form: the tests in document 01's order, 10, 12, 11.
-pub fn read_set(lim: Limits, most: usize, s: &[u8]) -> SetReading
+pub fn read_set(lim: Limits, most: usize, s: &[u8]) -> Reading
     ensures { λ r. ⌜ r ≡ setReading lim most (now (s .entry)) ⌝ }
 {
     if !is_shaped(s) {
@@ -86,7 +86,7 @@ pub fn read_set(lim: Limits, most: usize, s: &[u8]) -> SetReading
     }
     let run = read_members(lim, s, count);
     match run {
-        Run::Right => SetReading::Literals(count),
-        Run::Refused(x) => SetReading::Refused(x),
+        Run::Right => Reading::Count(count),
+        Run::Refused(x) => Reading::Refused(x),
     }
 }

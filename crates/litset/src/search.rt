@@ -6,8 +6,8 @@ ghost use mathlib.Core.Bool.{cond};
 ghost use Prim.Native.Nat.{_+_, _*_, _≤_, _<_};
 ghost use lib.Dec.{leb};
 ghost use lib.ListN.{length};
-ghost use Rattle.literal.specs.Order.{keyRoom};
-ghost use Rattle.litset.specs.Keys.{Ascends, hasKey, memberKey, Place};
+ghost use Rattle.literal.specs.Code.{keyRoom};
+ghost use Rattle.litset.specs.Code.{Ascends, hasKey, memberKey, Place};
 
 // One more than the largest key that five bytes spell.
 const ROOM: u64 = 1099511627776;

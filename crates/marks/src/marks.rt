@@ -15,14 +15,13 @@ ghost use mathlib.Core.List.{[], _∷_, map};
 ghost use Prim.Native.Nat.{_+_, _*_, _≤_, _<_};
 ghost use lib.ListN.{length, getD};
 ghost use Rattle.literal.specs.Order.{key};
-ghost use Rattle.semantics.specs.Set.{all};
+ghost use Rattle.semantics.specs.Set.{eachOf};
 ghost use Rattle.semantics.specs.Rule.{Rule};
-ghost use Rattle.record.specs.Size.{recordSize};
-ghost use Rattle.emit.specs.Options.{tagAt, optionsAt};
-ghost use Rattle.emit.specs.Starts.{Starts};
-ghost use Rattle.litset.specs.Keys.{Ascends, keySet};
+ghost use Rattle.record.specs.Code.{recordSize};
+ghost use Rattle.emit.specs.Code.{tagAt, optionsAt, Starts};
+ghost use Rattle.litset.specs.Code.{Ascends, keySet};
 ghost use Rattle.marks.specs.Marks.{derivedMarks, ruleMarks, marksFrom};
-ghost use Rattle.marks.specs.Collect.{Gained, Marking};
+ghost use Rattle.marks.specs.Code.{Gained, Marking};
 
 // Whether the option is in the set and not defeated there.
 fn is_derived(set: &[u8], count: usize, t: Tag, a: SignedAtom) -> bool
@@ -71,7 +70,7 @@ fn is_defeated(set: &[u8], count: usize, part: &[u8]) -> bool
     requires { ⌜ 4 + 5 * count ≤ length (now set) ⌝ }
     requires { ⌜ Ascends (now set) count ⌝ }
     requires { ⌜ recordSize (now part) ≤ length (now part) ⌝ }
-    ensures { λ r. ⌜ r ≡ all (λ a. keySet (now (set .entry)) count (Literal.Defeated (tagAt (now (part .entry))) a)) (optionsAt (now (part .entry)) 7 (getD (now (part .entry)) 4 0)) ⌝ }
+    ensures { λ r. ⌜ r ≡ eachOf (λ a. keySet (now (set .entry)) count (Literal.Defeated (tagAt (now (part .entry))) a)) (optionsAt (now (part .entry)) 7 (getD (now (part .entry)) 4 0)) ⌝ }
 {
     let t = tag_at(part);
     let mut at: usize = 7;

@@ -3,7 +3,7 @@
 ghost use mathlib.Core.Path.{_≡_};
 ghost use Prim.Native.Nat.{_-_, _^_, _≤_, _<_};
 ghost use lib.Bits.{bitAnd};
-ghost use Rattle.mask.specs.Mask.{has, Highest};
+ghost use Rattle.mask.specs.Code.{has, Highest};
 
 // The mask of one position.
 pub fn single_at(i: u32) -> u64

@@ -8,7 +8,7 @@ use record::Refusal;
 use record::Step;
 use record::Written;
 ghost use mathlib.Core.Path.{_≡_};
-ghost use Rattle.measure.specs.Measure.{measured, Writable};
+ghost use Rattle.measure.specs.Code.{measured, Writable};
 
 // One pass over the source, record by record, as reading goes: the translation's length, or the refusal.
 pub fn measure_source(lim: Limits, s: &[u8]) -> Written

@@ -1,4 +1,6 @@
 pub mod Narrow
+pub mod Quiet
+pub mod Unforced
 pub mod Force
 pub mod Pass
 pub mod Build

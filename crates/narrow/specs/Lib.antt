@@ -1,3 +1,1 @@
-pub mod Clause
-pub mod Narrow
-pub mod Picked
+pub mod Code

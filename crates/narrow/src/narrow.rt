@@ -4,15 +4,14 @@ use crate::Bounds;
 use mask::without_lowest;
 ghost use Prim.Native.Nat.{_≤_};
 ghost use lib.ListN.{length};
-ghost use Rattle.mask.specs.Mask.{Within};
-ghost use Rattle.narrow.specs.Clause.{Holds, Model};
-ghost use Rattle.narrow.specs.Narrow.{Narrowed, Propagated};
+ghost use Rattle.mask.specs.Code.{Within};
+ghost use Rattle.narrow.specs.Code.{Holds, Model, Settled, Quiet, Narrowed, Propagated};
 
 // What one clause forces: its last open head literal, where the body is present; the absence of its last open body
 // literal, where no head literal is left. A clause that lacks a body literal or has a head literal forces nothing, and one
 // with nothing open leaves no mask.
 fn force(body: u64, head: u64, must: u64, may: u64) -> Bounds
-    ensures { λ r. ⌜ Narrowed (Holds body head) must may r ⌝ }
+    ensures { λ r. ⌜ Narrowed (Holds body head) (Quiet (Holds body head)) must may r ⌝ }
 {
     let same = Bounds {
         live: true,
@@ -54,7 +53,7 @@ fn force(body: u64, head: u64, must: u64, may: u64) -> Bounds
 // One sweep over the clauses, each on what the clauses before it left; the first is that not all is present.
 fn pass(bodies: &[u64], heads: &[u64], count: usize, whole: u64, must: u64, may: u64) -> Bounds
     requires { ⌜ (count ≤ length (now bodies)) × (count ≤ length (now heads)) ⌝ }
-    ensures { λ r. ⌜ Narrowed (Model whole (now (bodies .entry)) (now (heads .entry)) count) must may r ⌝ }
+    ensures { λ r. ⌜ Narrowed (Model whole (now (bodies .entry)) (now (heads .entry)) count) (Settled whole (now (bodies .entry)) (now (heads .entry)) count) must may r ⌝ }
 {
     let mut now = force(whole, 0, must, may);
     let mut i: usize = 0;
@@ -78,7 +77,7 @@ pub fn propagate(
     may: u64,
 ) -> Bounds
     requires { ⌜ (count ≤ length (now bodies)) × (count ≤ length (now heads)) × Within must may ⌝ }
-    ensures { λ r. ⌜ Propagated (Model whole (now (bodies .entry)) (now (heads .entry)) count) must may r ⌝ }
+    ensures { λ r. ⌜ Propagated (Model whole (now (bodies .entry)) (now (heads .entry)) count) (Settled whole (now (bodies .entry)) (now (heads .entry)) count) must may r ⌝ }
 {
     let mut was = Bounds {
         live: true,

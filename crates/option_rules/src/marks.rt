@@ -15,11 +15,11 @@ ghost use Rattle.buffer.specs.Write.{write};
 ghost use Rattle.literal.specs.Literal.{encoded};
 ghost use Rattle.literal.specs.declared.Literal.the-variants.{Signed};
 ghost use Rattle.record.specs.Layout.{encodedLiterals};
-ghost use Rattle.emit.specs.Options.{tagAt, optionAt, optionsAt};
-ghost use Rattle.option_rules.specs.Marks.{markOf};
+ghost use Rattle.emit.specs.Code.{tagAt, optionAt, optionsAt};
+ghost use Rattle.option_rules.specs.Code.{markOf};
 
 // The derivation mark of an option, or its defeat mark.
-pub fn mark_option(derived: bool, tag: Tag, option: SignedAtom) -> Literal
+fn mark_option(derived: bool, tag: Tag, option: SignedAtom) -> Literal
     ensures { λ r. ⌜ r ≡ markOf derived tag option ⌝ }
 {
     if derived {

@@ -9,7 +9,7 @@ ghost use lib.ListN.{length};
 ghost use Rattle.buffer.specs.Write.{write};
 ghost use Rattle.semantics.specs.Translation.{holdsIfDerived, derivedIfHolds, neverBoth, option, options};
 ghost use Rattle.record.specs.Layout.{encodedRule, encodedRules};
-ghost use Rattle.emit.specs.Options.{tagAt, optionAt, optionsAt};
+ghost use Rattle.emit.specs.Code.{tagAt, optionAt, optionsAt};
 
 // (4): the option, if it is derived.
 fn write_holds(s: &[u8], at: usize, out: &mut [u8], to: usize)

@@ -11,9 +11,9 @@ ghost use lib.ListN.{length};
 ghost use Rattle.buffer.specs.Write.{write};
 ghost use Rattle.literal.specs.declared.Literal.the-variants.{Defeated};
 ghost use Rattle.record.specs.Layout.{encodedLiterals};
-ghost use Rattle.litset.specs.Keys.{Ascends, keySet};
-ghost use Rattle.emit.specs.Options.{tagAt, optionAt};
-ghost use Rattle.remains.specs.Left.{leftAt};
+ghost use Rattle.litset.specs.Code.{Ascends, keySet};
+ghost use Rattle.emit.specs.Code.{tagAt, optionAt};
+ghost use Rattle.remains.specs.Code.{leftAt};
 
 // Whether the defeat mark of the option at a place is in the set.
 fn is_defeated(t: &[u8], at: usize, set: &[u8], count: usize) -> bool

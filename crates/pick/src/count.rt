@@ -2,7 +2,7 @@
 
 use crate::Tally;
 ghost use mathlib.Core.Path.{_≡_};
-ghost use Rattle.pick.specs.Count.{tallied, refined, mostOf};
+ghost use Rattle.pick.specs.Code.{tallied, refined, mostOf};
 
 // A tally with each position of a mask counted once more: the carry goes from digit to digit.
 pub fn add(t: Tally, m: u64) -> Tally

@@ -1,6 +1,6 @@
 // Which open literal a search over clauses tries: positions counted, and chosen by their counts.
 
-pub mod count;
+mod count;
 pub mod pick;
 
 // How often each position stood in the masks that were added, for all positions at once: a position's digits in d7 to d0

@@ -8,7 +8,7 @@ use mask::without_lowest;
 ghost use Prim.Native.Nat.{_≤_, _<_};
 ghost use lib.Bits.{bitXor};
 ghost use lib.ListN.{length};
-ghost use Rattle.mask.specs.Mask.{Position};
+ghost use Rattle.mask.specs.Code.{Position};
 
 // An open literal: one that stands most often in clauses with two open literals, and of those one that stands most often in
 // longer ones. So clauses become short soon, and a dead end shows early; any open literal would do.

@@ -1,6 +1,5 @@
 -- The filter program (01, "The filter program"): what it writes to standard output for what it reads.
--- In order: its buffers; what it writes of an outcome, and what its buffer holds then; the filter; what its function
--- promises.
+-- In order: its buffers; what it writes of an outcome; the filter; what its function promises.
 -- Assumes nothing.
 use Prim.Native.Nat.{ℕ, _+_, _≤_}
 use mathlib.Core.Path.{_≡_}
@@ -15,7 +14,6 @@ use Rattle.translate.specs.Translate.{translated}
 
 -- one byte above the source limit, so that excess shows as 1; and the bytes that a translation may have
 unfoldable pub inputSize : ℕ
-unfolding source
 inputSize = source .length + 1
 
 abbrev pub outputSize : ℕ
@@ -29,20 +27,13 @@ printed o =
       | Refused x ↦ encodedRefusal x
     ]
 
--- what the buffer holds then: the result with what stood behind it, or an R: record over its start
-unfoldable pub printedInto : Outcome → List ℕ
-printedInto o =
-    elim (o .answer) [
-      | Length n ↦ o .buffer
-      | Refused x ↦ write (o .buffer) 0 (encodedRefusal x)
-    ]
-
 -- standard output for standard input
 unfoldable pub filtered : List ℕ → List ℕ
 filtered input = printed (translated source (take inputSize input) (replicate outputSize 0))
 
--- the first r bytes of the buffer are what the filter writes of the outcome; and the whole buffer
-pub record Prints (o : Outcome) (r : ℕ) (out : List ℕ) : Type 0 where
-  pub within : r ≤ length out
-  pub bytes : take r out ≡ printed o
-  pub buffer : out ≡ printedInto o
+-- bs is written of a buffer that was out and is end: its first r bytes, over the start of what it was; the bytes behind
+-- are untouched
+pub record Prints (bs out : List ℕ) (r : ℕ) (end : List ℕ) : Type 0 where
+  pub within : r ≤ length end
+  pub bytes : take r end ≡ bs
+  pub buffer : end ≡ write out 0 bs

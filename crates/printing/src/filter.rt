@@ -1,21 +1,29 @@
 // What the filter program does between reading and writing.
 
 use emit::refusal::write_refusal;
+use literal::form::Source;
 use record::Written;
 use translate::translate::translate_source;
-ghost use Prim.Native.Nat.{_≤_, _<_};
-ghost use lib.ListN.{length};
-ghost use Rattle.literal.specs.Limits.{source};
-ghost use Rattle.translate.specs.Translate.{translated};
-ghost use Rattle.printing.specs.Filter.{Prints};
+ghost use mathlib.Core.Path.{_≡_};
+ghost use Prim.Native.Nat.{_≤_};
+ghost use lib.ListN.{length, take};
+ghost use Rattle.printing.specs.Filter.{inputSize, outputSize, filtered, Prints};
 
-// Leaves at the start of `out` what is to be printed, the translation or an R: record, and answers how many bytes that is.
-pub fn filter_translate(input: &[u8], out: &mut [u8]) -> usize
-    requires { ⌜ length (now input) < 4294967296 ⌝ }
-    requires { ⌜ 7 ≤ length (now out) ⌝ }
-    ensures { λ r. ⌜ Prints (translated source (now (input .entry)) (now (out .entry))) r (now (out .exit)) ⌝ }
+// The input buffer's size: one byte above the source limit, so that excess shows as refusal 1.
+pub const INPUT: usize = Source::LENGTH + 1;
+
+// The output buffer's size.
+pub const OUTPUT: usize = 65536;
+
+// Leaves at the start of `out` what is to be printed of the first `got` bytes of `input`, their translation or an R: record,
+// and answers how many bytes that is.
+pub fn filter_translate(input: &[u8], got: usize, out: &mut [u8]) -> usize
+    requires { ⌜ length (now input) ≡ inputSize ⌝ }
+    requires { ⌜ got ≤ inputSize ⌝ }
+    requires { ⌜ length (now out) ≡ outputSize ⌝ }
+    ensures { λ r. ⌜ Prints (filtered (take got (now (input .entry)))) (now (out .entry)) r (now (out .exit)) ⌝ }
 {
-    let answer = translate_source(input, out);
+    let answer = translate_source(&input[..got], out);
     match answer {
         Written::Length(n) => n,
         Written::Refused(x) => {

@@ -1,2 +1,2 @@
 pub mod Quotient
-pub mod Writing
+pub mod Code

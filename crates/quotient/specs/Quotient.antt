@@ -7,10 +7,9 @@ use Rattle.literal.specs.declared.Literal.{Literal}
 use Rattle.semantics.specs.Set.{setOf}
 use Rattle.semantics.specs.Rule.{Rule, strict, Program, Remainder}
 use Rattle.semantics.specs.Meaning.{quotient}
-use Rattle.record.specs.Result.{Result, accepted, andThen, Outcome, delivered}
+use Rattle.record.specs.Result.{Result, accepted, Outcome, delivered}
 use Rattle.record.specs.Layout.{encodedProgram}
-use Rattle.record.specs.Reading.{parsed}
-use Rattle.litset.specs.Reading.{parsedSet}
+use Rattle.inputs.specs.Inputs.{withInputs}
 
 -- a rule of a quotient as a strict rule without naf literals
 unfoldable pub remainderRule : Remainder → Rule
@@ -22,10 +21,7 @@ quotientProgram p ls = map remainderRule (quotient p (setOf ls))
 
 -- S: records with tag 0 in rule order, and an end record that counts them
 unfoldable pub quotientBytes : Limits → List ℕ → List ℕ → Result (List ℕ)
-quotientBytes F s k =
-    andThen (parsed F s) (λ p.
-    andThen (parsedSet F (F .literals) k) (λ ls.
-    accepted (encodedProgram (quotientProgram p ls))))
+quotientBytes F s k = withInputs F (F .literals) s k (λ p ls. accepted (encodedProgram (quotientProgram p ls)))
 
 unfoldable pub quotiented : Limits → List ℕ → List ℕ → List ℕ → Outcome
 quotiented F s k out = delivered (quotientBytes F s k) out

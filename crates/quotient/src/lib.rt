@@ -1,4 +1,4 @@
 // The quotient of a program by a set of literals, written as a plain program.
 
-pub mod pass;
+mod pass;
 pub mod quotient;

@@ -12,11 +12,11 @@ ghost use lib.ListN.{length};
 ghost use Rattle.buffer.specs.Write.{write};
 ghost use Rattle.semantics.specs.Rule.{Program};
 ghost use Rattle.record.specs.Layout.{encodedProgram};
-ghost use Rattle.litset.specs.Keys.{Ascends, keySet};
-ghost use Rattle.quotient.specs.Writing.{quotientOf, Holds};
+ghost use Rattle.litset.specs.Code.{Ascends, keySet};
+ghost use Rattle.quotient.specs.Code.{quotientOf, Holds};
 
 // The length of the quotient.
-pub fn measure_quotient(s: &[u8], set: &[u8], count: usize) -> usize
+fn measure_quotient(s: &[u8], set: &[u8], count: usize) -> usize
     requires { ⌜ Holds (now s) ⌝ }
     requires { ⌜ 4 + 5 * count ≤ length (now set) ⌝ }
     requires { ⌜ Ascends (now set) count ⌝ }

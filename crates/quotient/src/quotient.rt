@@ -2,14 +2,10 @@
 
 use crate::pass::is_room;
 use crate::pass::write_quotient;
+use inputs::read::read_inputs;
 use literal::Limits;
 use literal::form::Plain;
 use literal::form::Source;
-use litset::SetReading;
-use litset::answer::refused_program;
-use litset::answer::refused_set;
-use litset::read::read_set;
-use reading::read::read;
 use record::Reading;
 use record::Reason;
 use record::Refusal;
@@ -17,28 +13,26 @@ use record::Written;
 ghost use Rattle.literal.specs.Limits.{source, plain};
 ghost use Rattle.record.specs.Meets.{Meets};
 ghost use Rattle.quotient.specs.Quotient.{quotiented};
-ghost use Rattle.quotient.specs.Writing.{Sized};
+ghost use Rattle.quotient.specs.Code.{Sized};
 
 // The quotient of the program that `s` holds by the set that `k` holds, in a form, written to the start of `out`.
-pub fn divide(lim: Limits, s: &[u8], k: &[u8], out: &mut [u8]) -> Written
+fn divide(lim: Limits, s: &[u8], k: &[u8], out: &mut [u8]) -> Written
     requires { ⌜ Sized lim ⌝ }
     ensures { λ r. ⌜ Meets (quotiented lim (now (s .entry)) (now (k .entry)) (now (out .entry))) r (now (out .exit)) ⌝ }
 {
-    let program = read(lim, s);
-    let Reading::Rules(_) = program else {
-        return refused_program(program);
-    };
-    let set = read_set(lim, lim.literals, k);
-    let SetReading::Literals(count) = set else {
-        return refused_set(set);
-    };
-    if !is_room(s, k, count, out.len()) {
-        return Written::Refused(Refusal {
-            reason: Reason::OutputShort,
-            place: 0,
-        });
+    let inputs = read_inputs(lim, lim.literals, s, k);
+    match inputs {
+        Reading::Refused(x) => Written::Refused(x),
+        Reading::Count(count) => {
+            if !is_room(s, k, count, out.len()) {
+                return Written::Refused(Refusal {
+                    reason: Reason::OutputShort,
+                    place: 0,
+                });
+            }
+            Written::Length(write_quotient(s, k, count, out))
+        }
     }
-    Written::Length(write_quotient(s, k, count, out))
 }
 
 // The source form.

@@ -31,7 +31,7 @@ pub fn read(lim: Limits, s: &[u8]) -> Reading
                 at += size;
                 held += 1;
             }
-            Step::End => return Reading::Rules(held),
+            Step::End => return Reading::Count(held),
             Step::Refused(x) => {
                 let reason = x.reason;
                 return Reading::Refused(Refusal {

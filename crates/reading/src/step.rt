@@ -1,9 +1,11 @@
 // One record of a program, in its own part of the slice: document 01's tests in their order.
 
 use buffer::get::get_number;
-use decode::range::is_in_range;
+use decode::range::is_tag;
 use decode::valid::is_literal;
+use fields::field::get_tag;
 use literal::Limits;
+use literal::Tag;
 use record::Mark;
 use record::Reason;
 use record::Refusal;
@@ -48,13 +50,13 @@ fn mark_of(lim: Limits, t: &[u8]) -> Mark
 }
 
 // Whether the tag is in its range: 0 for a strict rule.
-fn is_tag_right(lim: Limits, defeasible: bool, tag: u16) -> bool
-    ensures { λ r. ⌜ r ≡ tagRight lim defeasible tag ⌝ }
+fn is_tag_right(lim: Limits, defeasible: bool, tag: Tag) -> bool
+    ensures { λ r. ⌜ r ≡ tagRight lim defeasible (tag .0) ⌝ }
 {
     if defeasible {
-        is_in_range(lim.tags, tag)
+        is_tag(lim, tag)
     } else {
-        tag == 0
+        tag.0 == 0
     }
 }
 
@@ -142,7 +144,7 @@ fn read_rule(lim: Limits, defeasible: bool, t: &[u8], held: usize) -> Step
     if lim.rules <= held {
         return refuse(Reason::TooManyRules);
     }
-    let tag = get_number(t, 2);
+    let tag = get_tag(t, 2);
     if !is_tag_right(lim, defeasible, tag) {
         return refuse(Reason::TagWrong);
     }

@@ -1,15 +1,13 @@
 -- What the reader's functions answer, from what the definitions of `Reading` give: a function keeps a rule's length
--- where the definition gives the rule.
--- In order: a run of literals; the kinds of head literals; one record; rules counted on.
+-- where the definition gives the rule; and how code goes from one record to the next.
+-- In order: a run of literals; the kinds of head literals; one record; the length of a rule's record.
 -- Assumes nothing.
-use Prim.Native.Nat.{ℕ, zero, suc, _+_}
+use Prim.Native.Nat.{ℕ, zero, suc, _+_, _*_}
 use mathlib.Core.Bool.{Bool, true, _&&_}
 use mathlib.Core.List.{List}
 use lib.Dec.{leb}
-use lib.ListN.{length, getD}
+use lib.ListN.{getD}
 use Rattle.literal.specs.declared.Literal.{Literal}
-use Rattle.semantics.specs.Rule.{Program}
-use Rattle.record.specs.declared.Reading.{Reading}
 use Rattle.record.specs.declared.Run.{Run}
 use Rattle.record.specs.declared.Step.{Step}
 use Rattle.record.specs.Result.{Result, accepted, refused}
@@ -31,7 +29,6 @@ stepOf (accepted (rule r size)) = Step.Rule size
 stepOf (accepted end) = Step.End
 stepOf (refused x) = Step.Refused x
 
--- the rules of a part, behind n that are held
-unfoldable pub countedOn : ℕ → Result Program → Reading
-countedOn n (accepted p) = Reading.Rules (n + length p)
-countedOn n (refused x) = Reading.Refused x
+-- the length of the rule's record that starts a part, by its counts
+abbrev pub recordSize : List ℕ → ℕ
+recordSize t = 7 + 5 * (getD t 4 0 + getD t 5 0 + getD t 6 0)

@@ -4,4 +4,3 @@ pub mod Meets
 pub mod Layout
 pub mod Reading
 pub mod Code
-pub mod Size

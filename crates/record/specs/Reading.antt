@@ -14,7 +14,7 @@ use Rattle.literal.specs.declared.Limits.{Limits}
 use Rattle.literal.specs.declared.SignedAtom.{SignedAtom}
 use Rattle.literal.specs.declared.Literal.{Literal}
 use Rattle.literal.specs.declared.Literal.the-variants.{Signed, Defeated, Derived, RuleDefeated}
-use Rattle.literal.specs.declared.Decoded.the-variants.{Valid, Wrong}
+use Rattle.literal.specs.Literal.{Valid, Wrong}
 use Rattle.literal.specs.Literal.{inRange, decoded}
 use Rattle.semantics.specs.Rule.{Rule, strict, defeasible, Program}
 use Rattle.semantics.specs.Form.{keepsCounts}
@@ -22,7 +22,7 @@ use Rattle.record.specs.declared.Reason.the-variants.{TooLong, MarkCut, 
 use Rattle.record.specs.declared.Mark.{Mark}
 use Rattle.record.specs.declared.Mark.the-variants.{RuleMark, EndMark, NoMark}
 use Rattle.record.specs.declared.Reading.{Reading}
-use Rattle.record.specs.declared.Reading.the-variants.{Rules, Refused}
+use Rattle.record.specs.declared.Reading.the-variants.{Count, Refused}
 use Rattle.record.specs.Refusal.{refusal, shifted}
 use Rattle.record.specs.Result.{Result, accepted, refused, andThen, refuseIf}
 use Rattle.record.specs.Layout.{colon}
@@ -131,9 +131,9 @@ rulesFrom F (suc f) t at n =
 unfoldable pub parsed : Limits → List ℕ → Result Program
 parsed F s = refuseIf (ltb (F .length) (length s)) (refusal TooLong 0) (rulesFrom F (length s + 1) s 0 0)
 
--- read's answer: the number of rules
-unfoldable pub readingOf : Result Program → Reading
-readingOf (accepted p) = Rules (length p)
+-- the answer of a reading: how many rules, or literals, were read
+unfoldable pub readingOf : {A : Type 0} → Result (List A) → Reading
+readingOf (accepted xs) = Count (length xs)
 readingOf (refused x) = Refused x
 
 unfoldable pub reading : Limits → List ℕ → Reading

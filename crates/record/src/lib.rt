@@ -42,10 +42,10 @@ pub struct Refusal {
     pub place: usize,
 }
 
-// What reading a program answers.
+// What reading a program, or a set, answers.
 pub enum Reading {
-    // The number of rules.
-    Rules(usize),
+    // The number of rules, or of literals.
+    Count(usize),
     Refused(Refusal),
 }
 

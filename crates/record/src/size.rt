@@ -3,7 +3,7 @@
 ghost use mathlib.Core.Path.{_≡_};
 ghost use Prim.Native.Nat.{_+_, _*_, _≤_};
 ghost use lib.ListN.{length};
-ghost use Rattle.record.specs.Size.{recordSize};
+ghost use Rattle.record.specs.Code.{recordSize};
 
 // A rule's record with these counts has so many bytes.
 fn size_for(heads: u8, positives: u8, nafs: u8) -> usize

@@ -1,1 +1,1 @@
-pub mod Remainder
+pub mod Code

@@ -9,10 +9,10 @@ ghost use mathlib.Core.Path.{_≡_};
 ghost use Prim.Native.Nat.{_+_, _*_, _≤_};
 ghost use lib.ListN.{length, getD};
 ghost use Rattle.buffer.specs.Write.{write};
-ghost use Rattle.record.specs.Size.{recordSize};
-ghost use Rattle.litset.specs.Keys.{Ascends, anyKey};
-ghost use Rattle.remains.specs.Left.{leftAt};
-ghost use Rattle.remainder.specs.Remainder.{strictBytes, optionBytes, remainderAt};
+ghost use Rattle.record.specs.Code.{recordSize};
+ghost use Rattle.litset.specs.Code.{Ascends, anyKey};
+ghost use Rattle.remains.specs.Code.{leftAt};
+ghost use Rattle.remainder.specs.Code.{strictBytes, optionBytes, remainderAt};
 
 // Whether one of the rule's naf literals is in the set: then nothing is left of it.
 fn is_removed(t: &[u8], set: &[u8], count: usize) -> bool

@@ -1,1 +1,2 @@
 pub mod Restrict
+pub mod Code

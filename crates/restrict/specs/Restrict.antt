@@ -1,11 +1,9 @@
 -- The restriction as bytes (01, "Restrict"): 10, 12, 11, 9; the A: record without kinds 4 to 6, of any size.
--- In order: the restriction as a list; as bytes; how many literals of a set's slice the code keeps.
+-- In order: the restriction as a list; as bytes.
 -- Assumes nothing.
-use Prim.Native.Nat.{ℕ, zero, suc, _+_}
+use Prim.Native.Nat.{ℕ}
 use mathlib.Core.Bool.{cond}
 use mathlib.Core.List.{List, [], _∷_}
-use lib.Dec.{leb}
-use lib.ListN.{getD}
 use Rattle.literal.specs.declared.Limits.{Limits}
 use Rattle.literal.specs.declared.Literal.{Literal}
 use Rattle.semantics.specs.Extension.{sourceKind}
@@ -23,8 +21,3 @@ restrictionBytes F k = andThen (parsedSet F (F .literals) k) (λ ls. accepted (e
 
 unfoldable pub restricted : Limits → List ℕ → List ℕ → Outcome
 restricted F k out = delivered (restrictionBytes F k) out
-
--- of n literals from `at` on, how many stand before the first of kinds 4 to 6
-unfoldable pub sourceFront : List ℕ → ℕ → ℕ → ℕ
-sourceFront s at zero = 0
-sourceFront s at (suc n) = cond (leb (getD s at 0) 3) (sourceFront s (at + 5) n + 1) 0

@@ -3,10 +3,9 @@
 use emit::copy::copy;
 use literal::Limits;
 use literal::form::Plain;
-use litset::SetReading;
-use litset::answer::refused_set;
 use litset::header::write_set_header;
 use litset::read::read_set;
+use record::Reading;
 use record::Reason;
 use record::Refusal;
 use record::Written;
@@ -15,7 +14,8 @@ ghost use Prim.Native.Nat.{_+_, _*_, _≤_};
 ghost use lib.ListN.{length};
 ghost use Rattle.literal.specs.Limits.{plain};
 ghost use Rattle.record.specs.Meets.{Meets};
-ghost use Rattle.restrict.specs.Restrict.{sourceFront, restricted};
+ghost use Rattle.restrict.specs.Code.{sourceFront};
+ghost use Rattle.restrict.specs.Restrict.{restricted};
 
 // How many of `count` literals stand before the first of kinds 4 to 6.
 fn count_front(k: &[u8], count: usize) -> usize
@@ -36,25 +36,27 @@ fn count_front(k: &[u8], count: usize) -> usize
 
 // The restriction of the set that `k` holds in a form, written to the start of `out`. A set's literals ascend, so that
 // those of kinds 0 to 3 are its first ones, and one run of bytes.
-pub fn restrict(lim: Limits, k: &[u8], out: &mut [u8]) -> Written
+fn restrict(lim: Limits, k: &[u8], out: &mut [u8]) -> Written
     ensures { λ r. ⌜ Meets (restricted lim (now (k .entry)) (now (out .entry))) r (now (out .exit)) ⌝ }
 {
-    let a = read_set(lim, lim.literals, k);
-    let SetReading::Literals(n) = a else {
-        return refused_set(a);
-    };
-    let held = count_front(k, n);
-    let bytes = 5 * held;
-    let size = 4 + bytes;
-    if out.len() < size {
-        return Written::Refused(Refusal {
-            reason: Reason::OutputShort,
-            place: 0,
-        });
+    let read = read_set(lim, lim.literals, k);
+    match read {
+        Reading::Refused(x) => Written::Refused(x),
+        Reading::Count(n) => {
+            let held = count_front(k, n);
+            let bytes = 5 * held;
+            let size = 4 + bytes;
+            if out.len() < size {
+                return Written::Refused(Refusal {
+                    reason: Reason::OutputShort,
+                    place: 0,
+                });
+            }
+            write_set_header(held as u16, out);
+            copy(k, 4, bytes, out, 4);
+            Written::Length(size)
+        }
     }
-    write_set_header(held as u16, out);
-    copy(k, 4, bytes, out, 4);
-    Written::Length(size)
 }
 
 // The restriction of a plain set.

@@ -11,8 +11,8 @@ ghost use mathlib.Core.Path.{_≡_};
 ghost use Rattle.buffer.specs.Write.{write};
 ghost use Rattle.semantics.specs.Translation.{translation};
 ghost use Rattle.record.specs.Layout.{encodedProgram};
-ghost use Rattle.measure.specs.Measure.{Writable};
-ghost use Rattle.rewrite.specs.Pass.{Translatable};
+ghost use Rattle.measure.specs.Code.{Writable};
+ghost use Rattle.rewrite.specs.Code.{Translatable};
 
 // The translation of a source that was measured, in the form that `lim` gives, to the start of `out`. Each byte is written once.
 pub fn write_rules(lim: Limits, s: &[u8], out: &mut [u8])

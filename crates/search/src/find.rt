@@ -8,9 +8,9 @@ use pick::pick::pick;
 ghost use mathlib.Core.Path.{_≡_};
 ghost use Prim.Native.Nat.{_≤_};
 ghost use lib.ListN.{length};
-ghost use Rattle.mask.specs.Mask.{Within};
-ghost use Rattle.narrow.specs.Clause.{Model, Smaller};
-ghost use Rattle.search.specs.Search.{Candidate, Any, First};
+ghost use Rattle.mask.specs.Code.{Within};
+ghost use Rattle.narrow.specs.Code.{Model, Settled, Smaller};
+ghost use Rattle.search.specs.Code.{Candidate, Any, First};
 
 // Settles what the clauses force, then tries what they leave open.
 fn settle(bodies: &[u64], heads: &[u64], count: usize, whole: u64, must: u64, may: u64) -> Found
@@ -27,9 +27,10 @@ fn settle(bodies: &[u64], heads: &[u64], count: usize, whole: u64, must: u64, ma
     try_open(bodies, heads, count, whole, left.must, left.may)
 }
 
-// Tries an open literal, absent before present. Where none is open, the one mask between the bounds is a model.
+// Tries an open literal, absent before present, where the clauses force nothing more. Where none is open, the one mask between
+// the bounds is a model.
 fn try_open(bodies: &[u64], heads: &[u64], count: usize, whole: u64, must: u64, may: u64) -> Found
-    requires { ⌜ (count ≤ length (now bodies)) × (count ≤ length (now heads)) × Within must may × (must ≡ may → Model whole (now bodies) (now heads) count must) ⌝ }
+    requires { ⌜ (count ≤ length (now bodies)) × (count ≤ length (now heads)) × Within must may × (must ≡ may → Model whole (now bodies) (now heads) count must) × Settled whole (now bodies) (now heads) count must may ⌝ }
     ensures { λ r. ⌜ Any (Candidate (Model whole (now (bodies .entry)) (now (heads .entry)) count) must may) r ⌝ }
 {
     if must == may {

@@ -4,8 +4,8 @@ use Prim.Native.Nat.{_≤_}
 use mathlib.Core.Path.{sym, _∙_, subst}
 use lib.Dec.{T}
 use Rattle.literal.specs.declared.Limits.{Limits}
-use Rattle.literal.specs.Literal.{takes}
-use Rattle.semantics.specs.Set.{LiteralSet, all}
+use Rattle.literal.specs.Literal.{mostKind, takes}
+use Rattle.semantics.specs.Set.{LiteralSet, eachOf}
 use Rattle.semantics.specs.Rule.{Program}
 use Rattle.semantics.specs.Meaning.{AnswerSet}
 use Rattle.semantics.specs.Translation.{translation}
@@ -24,11 +24,11 @@ answer-set-within F p k s a l y =
     let w = answer-set-head a l y in
     all-mem (takes F) (keeps-head F (w .0) (all-mem (keepsRule F) (keeps-each F p k) (w .1))) (w .2)
 
-module _ (F G : Limits) (kinds : F .kinds ≤ 3) (covers : Covers F G) (p : Program) (k : T (keepsRules F p)) where
+module _ (F G : Limits) (kinds : mostKind (F .kinds) ≤ 3) (covers : Covers F G) (p : Program) (k : T (keepsRules F p)) where
   source-set : (s : LiteralSet) → SetOf F s → SourceSet s
   source-set s within l y = takes-source F kinds l (within l y)
 
-  sources : T (all sourceRule p)
+  sources : T (eachOf sourceRule p)
   sources = source-rules F kinds p (keeps-each F p k)
 
   restricted : (m : LiteralSet) → AnswerSet (translation p) m → AnswerSet p (restriction m)

@@ -15,7 +15,7 @@ use Rattle.literal.specs.declared.SignedAtom.{SignedAtom}
 use Rattle.literal.specs.declared.SignedAtom.the-variants.{Positive, Negative}
 use Rattle.literal.specs.declared.Literal.{Literal}
 use Rattle.literal.specs.declared.Literal.the-variants.{Signed, Defeated, Derived, RuleDefeated}
-use Rattle.semantics.specs.Set.{LiteralSet, any, all, Subset}
+use Rattle.semantics.specs.Set.{LiteralSet, someOf, eachOf, Subset}
 use Rattle.semantics.specs.Rule.{Rule, strict, defeasible, Program, head, positive, naf}
 use Rattle.semantics.specs.Meaning.{quotient, models, Interpretation, AnswerSet}
 use Rattle.semantics.specs.Translation.{ruleDefeated, translation}
@@ -33,27 +33,27 @@ agree-sym : {s u : LiteralSet} → Agree s u → Agree u s
 agree-sym e l k = sym (e l k)
 
 -- the literals of a source rule are of source kinds
-source-head : (r : Rule) → T (sourceRule r) → T (all sourceKind (head r))
+source-head : (r : Rule) → T (sourceRule r) → T (eachOf sourceKind (head r))
 unfolding sourceRule
-source-head r k = first (all sourceKind (head r)) (all sourceKind (positive r) && all sourceKind (naf r)) k
+source-head r k = first (eachOf sourceKind (head r)) (eachOf sourceKind (positive r) && eachOf sourceKind (naf r)) k
 
-source-positive : (r : Rule) → T (sourceRule r) → T (all sourceKind (positive r))
+source-positive : (r : Rule) → T (sourceRule r) → T (eachOf sourceKind (positive r))
 unfolding sourceRule
 source-positive r k =
-    first (all sourceKind (positive r)) (all sourceKind (naf r))
-    (second (all sourceKind (head r)) (all sourceKind (positive r) && all sourceKind (naf r)) k)
+    first (eachOf sourceKind (positive r)) (eachOf sourceKind (naf r))
+    (second (eachOf sourceKind (head r)) (eachOf sourceKind (positive r) && eachOf sourceKind (naf r)) k)
 
-source-naf : (r : Rule) → T (sourceRule r) → T (all sourceKind (naf r))
+source-naf : (r : Rule) → T (sourceRule r) → T (eachOf sourceKind (naf r))
 unfolding sourceRule
 source-naf r k =
-    second (all sourceKind (positive r)) (all sourceKind (naf r))
-    (second (all sourceKind (head r)) (all sourceKind (positive r) && all sourceKind (naf r)) k)
+    second (eachOf sourceKind (positive r)) (eachOf sourceKind (naf r))
+    (second (eachOf sourceKind (head r)) (eachOf sourceKind (positive r) && eachOf sourceKind (naf r)) k)
 
-source-positive-of : (t : Tag) (h : List SignedAtom) (b c : List Literal) → T (sourceRule (defeasible t h b c)) → T (all sourceKind b)
+source-positive-of : (t : Tag) (h : List SignedAtom) (b c : List Literal) → T (sourceRule (defeasible t h b c)) → T (eachOf sourceKind b)
 unfolding positive
 source-positive-of t h b c k = source-positive (defeasible t h b c) k
 
-source-naf-of : (t : Tag) (h : List SignedAtom) (b c : List Literal) → T (sourceRule (defeasible t h b c)) → T (all sourceKind c)
+source-naf-of : (t : Tag) (h : List SignedAtom) (b c : List Literal) → T (sourceRule (defeasible t h b c)) → T (eachOf sourceKind c)
 unfolding naf
 source-naf-of t h b c k = source-naf (defeasible t h b c) k
 
@@ -73,7 +73,7 @@ under v (Defeated t a) = v (Defeated t a)
 under v (Derived t a) = v (Signed a)
 under v (RuleDefeated n) = true
 
-module _ (p : Program) (sources : T (all sourceRule p)) (s : LiteralSet) (source : SourceSet s) where
+module _ (p : Program) (sources : T (eachOf sourceRule p)) (s : LiteralSet) (source : SourceSet s) where
   -- v with its marks, within the extension of s
   markedSet : LiteralSet → LiteralSet
   markedSet v l = extension p s l && under v l
@@ -180,7 +180,7 @@ extension-contained p s source r u e m sub = go
         let w = extension-defeated p s source n y in
         ruled (n .0) (w .0) (w .1) (w .2) (models-translation p r u m (w .1))
 
-module _ (p : Program) (sources : T (all sourceRule p)) where
+module _ (p : Program) (sources : T (eachOf sourceRule p)) where
   -- an answer set of p extends to one of the translation
   extends : (s : LiteralSet) → SourceSet s → AnswerSet p s → AnswerSet (translation p) (extension p s)
   unfolding Interpretation markedSet under
@@ -190,7 +190,7 @@ module _ (p : Program) (sources : T (all sourceRule p)) where
       e : Agree (extension p s) s
       e = extension-agree p s
 
-      consistent : Interpretation (translation p) (extension p s)
+      consistent : Interpretation (extension p s)
       consistent atom y z = a .consistent atom (along (agree-signed e (Positive atom)) y) (along (agree-signed e (Negative atom)) z)
 
       full : (l : Literal) → T (extension p s l) → T (markedSet p sources s source s l)
@@ -219,7 +219,7 @@ module _ (p : Program) (sources : T (all sourceRule p)) where
       e : Agree (extension p s) s
       e = extension-agree p s
 
-      consistent : Interpretation p s
+      consistent : Interpretation s
       consistent atom y z = a .consistent atom (along (sym (agree-signed e (Positive atom))) y) (along (sym (agree-signed e (Negative atom))) z)
 
       whole : T (models (quotient p s) s)
@@ -301,7 +301,7 @@ module _ (p : Program) (sources : T (all sourceRule p)) where
         extends = extension-iff;
         plain = λ s source. record {};
         returns =
-            λ m any a.
+            λ m someOf a.
             record {
               set = restriction m;
               within = restriction-source m;

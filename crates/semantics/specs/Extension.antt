@@ -10,18 +10,18 @@ use Rattle.literal.specs.declared.Tag.{Tag}
 use Rattle.literal.specs.declared.SignedAtom.{SignedAtom}
 use Rattle.literal.specs.declared.Literal.{Literal}
 use Rattle.literal.specs.declared.Literal.the-variants.{Signed, Defeated, Derived, RuleDefeated}
-use Rattle.semantics.specs.Set.{LiteralSet, any, all, sameTag, sameSigned}
+use Rattle.semantics.specs.Set.{LiteralSet, someOf, eachOf, sameTag, sameSigned}
 use Rattle.semantics.specs.Rule.{Rule, strict, defeasible, Program}
 
 -- a is an option of this rule and t its tag
 unfoldable pub offers : Tag → SignedAtom → Rule → Bool
 offers t a (strict h b c) = false
-offers t a (defeasible u h b c) = sameTag t u && any (sameSigned a) h
+offers t a (defeasible u h b c) = sameTag t u && someOf (sameSigned a) h
 
 -- all options of this rule are defeated in s
 unfoldable pub defeatedRule : LiteralSet → Rule → Bool
 defeatedRule s (strict h b c) = false
-defeatedRule s (defeasible t h b c) = all (λ a. s (Defeated t a)) h
+defeatedRule s (defeasible t h b c) = eachOf (λ a. s (Defeated t a)) h
 
 -- rule number n, of a program whose first rule has number k, is such a rule
 unfoldable pub defeatedFrom : ℕ → Program → LiteralSet → ℕ → Bool
@@ -33,7 +33,7 @@ defeatedFrom k (r ∷ p) s n = (eqb k n && defeatedRule s r) || defeatedFrom (k 
 unfoldable pub added : Program → LiteralSet → LiteralSet
 added p s (Signed a) = false
 added p s (Defeated t a) = false
-added p s (Derived t a) = any (offers t a) p && (s (Signed a) && not (s (Defeated t a)))
+added p s (Derived t a) = someOf (offers t a) p && (s (Signed a) && not (s (Defeated t a)))
 added p s (RuleDefeated n) = defeatedFrom 1 p s (n .0)
 
 unfoldable pub extension : Program → LiteralSet → LiteralSet

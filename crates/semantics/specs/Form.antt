@@ -9,7 +9,7 @@ use lib.ListN.{length}
 use Rattle.literal.specs.declared.Limits.{Limits}
 use Rattle.literal.specs.declared.Literal.{Literal}
 use Rattle.literal.specs.Literal.{takes, inRange}
-use Rattle.semantics.specs.Set.{LiteralSet, all}
+use Rattle.semantics.specs.Set.{LiteralSet, eachOf}
 use Rattle.semantics.specs.Rule.{Rule, strict, defeasible, Program, head, positive, naf}
 use Rattle.semantics.specs.Extension.{sourceKind}
 
@@ -23,7 +23,7 @@ keepsCounts F h b c = leb h (F .heads) && (leb b (F .positives) && leb c (F .naf
 
 -- each literal of the rule is one of the form's
 unfoldable pub keepsLiterals : Limits → Rule → Bool
-keepsLiterals F r = all (takes F) (head r) && (all (takes F) (positive r) && all (takes F) (naf r))
+keepsLiterals F r = eachOf (takes F) (head r) && (eachOf (takes F) (positive r) && eachOf (takes F) (naf r))
 
 -- a defeasible rule is of a form that has them, with a tag of the form's and one option or more
 unfoldable pub keepsTag : Limits → Rule → Bool
@@ -36,11 +36,11 @@ keepsRule F r = keepsTag F r && (keepsCounts F (length (head r)) (length (positi
 
 -- a program within the form's limits, but for its length in bytes
 unfoldable pub keepsRules : Limits → Program → Bool
-keepsRules F p = leb (length p) (F .rules) && all (keepsRule F) p
+keepsRules F p = leb (length p) (F .rules) && eachOf (keepsRule F) p
 
 -- a rule, and a set, of literals of kinds 0 to 3, whatever their numbers
 unfoldable pub sourceRule : Rule → Bool
-sourceRule r = all sourceKind (head r) && (all sourceKind (positive r) && all sourceKind (naf r))
+sourceRule r = eachOf sourceKind (head r) && (eachOf sourceKind (positive r) && eachOf sourceKind (naf r))
 
 abbrev pub SourceSet : LiteralSet → Type 0
 SourceSet s = (l : Literal) → T (s l) → T (sourceKind l)

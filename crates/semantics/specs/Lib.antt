@@ -6,3 +6,4 @@ pub mod Extension
 pub mod Form
 pub mod Match
 pub mod Verdict
+pub mod Findings

@@ -13,7 +13,7 @@ use Rattle.literal.specs.declared.SignedAtom.{SignedAtom}
 use Rattle.literal.specs.declared.SignedAtom.the-variants.{Positive, Negative}
 use Rattle.literal.specs.declared.Literal.{Literal}
 use Rattle.literal.specs.declared.Literal.the-variants.{Signed, Defeated}
-use Rattle.semantics.specs.Set.{LiteralSet, any, all, ProperSubset}
+use Rattle.semantics.specs.Set.{LiteralSet, someOf, eachOf, ProperSubset}
 use Rattle.semantics.specs.Rule.{Rule, strict, defeasible, Program, Remainder}
 
 -- the options of a rule with tag t that are left: those whose defeat mark is not in s
@@ -30,8 +30,8 @@ unlessEmpty (l ∷ h) b = some (record { head = l ∷ h; positive = b })
 -- what s leaves of a rule, if anything: gone is a rule with a naf literal in s, and a defeasible rule whose options
 -- are all defeated in s
 unfoldable pub remainder : Rule → LiteralSet → Option Remainder
-remainder (strict h b c) s = cond (any s c) none (some (record { head = h; positive = b }))
-remainder (defeasible t h b c) s = cond (any s c) none (unlessEmpty (undefeated t h s) b)
+remainder (strict h b c) s = cond (someOf s c) none (some (record { head = h; positive = b }))
+remainder (defeasible t h b c) s = cond (someOf s c) none (unlessEmpty (undefeated t h s) b)
 
 unfoldable pub withRemainder : Option Remainder → List Remainder → List Remainder
 withRemainder none qs = qs
@@ -44,7 +44,7 @@ quotient (r ∷ p) s = withRemainder (remainder r s) (quotient p s)
 
 -- a rule holds in u: some positive body literal is missing, or some head literal present
 unfoldable pub holds : Remainder → LiteralSet → Bool
-holds q u = not (all u (q .positive)) || any u (q .head)
+holds q u = not (eachOf u (q .positive)) || someOf u (q .head)
 
 -- what is left of a rule holds in u, if anything is left
 unfoldable pub satisfied : Option Remainder → LiteralSet → Bool
@@ -56,13 +56,12 @@ unfoldable pub models : List Remainder → LiteralSet → Bool
 models [] u = true
 models (q ∷ qs) u = holds q u && models qs u
 
--- no atom is in s together with its explicit negation. (The program is named because what may not stand together is
--- a property of a program with its sets, though document 01's only such pairs are those of every program)
-unfoldable pub Interpretation : Program → LiteralSet → Type 0
-Interpretation p s = (a : Atom) → T (s (Signed (Positive a))) → T (s (Signed (Negative a))) → ⊥
+-- no atom is in s together with its explicit negation
+unfoldable pub Interpretation : LiteralSet → Type 0
+Interpretation s = (a : Atom) → T (s (Signed (Positive a))) → T (s (Signed (Negative a))) → ⊥
 
 -- an interpretation that is a model of its own quotient, where no proper subset of it is a model of that same quotient
 pub record AnswerSet (p : Program) (s : LiteralSet) : Type 0 where
-  pub consistent : Interpretation p s
+  pub consistent : Interpretation s
   pub model : T (models (quotient p s) s)
   pub minimal : (u : LiteralSet) → ProperSubset u s → T (models (quotient p s) u) → ⊥

@@ -17,13 +17,13 @@ abbrev pub LiteralSet : Type 0
 LiteralSet = Literal → Bool
 
 -- some, or each, element of a list passes a test
-abbrev pub any {ℓ} : {A : Type ℓ} → (A → Bool) → List A → Bool
-any f [] = false
-any f (x ∷ xs) = f x || any f xs
+abbrev pub someOf {ℓ} : {A : Type ℓ} → (A → Bool) → List A → Bool
+someOf f [] = false
+someOf f (x ∷ xs) = f x || someOf f xs
 
-abbrev pub all {ℓ} : {A : Type ℓ} → (A → Bool) → List A → Bool
-all f [] = true
-all f (x ∷ xs) = f x && all f xs
+abbrev pub eachOf {ℓ} : {A : Type ℓ} → (A → Bool) → List A → Bool
+eachOf f [] = true
+eachOf f (x ∷ xs) = f x && eachOf f xs
 
 -- each literal of u is one of s; and s has one more
 abbrev pub Subset : LiteralSet → LiteralSet → Type 0
@@ -63,4 +63,4 @@ sameLiteral (RuleDefeated n) (RuleDefeated m) = eqb (n .0) (m .0)
 
 -- the set of a list's literals
 abbrev pub setOf : List Literal → LiteralSet
-setOf ls l = any (sameLiteral l) ls
+setOf ls l = someOf (sameLiteral l) ls

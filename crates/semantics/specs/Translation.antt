@@ -61,14 +61,6 @@ unfoldable pub recordLength : Rule → ℕ
 recordLength (strict h b c) = 7 + 5 * (length h + (length b + length c))
 recordLength (defeasible t h b c) = 7 + 5 * (length h + (length b + length c))
 
--- the bytes of a program's records, and of the program: an end record follows
-unfoldable pub recordsLength : Program → ℕ
-recordsLength [] = 0
-recordsLength (r ∷ p) = recordLength r + recordsLength p
-
-unfoldable pub programLength : Program → ℕ
-programLength p = recordsLength p + 4
-
 -- the sum: what a rule adds to the translation's length. A strict rule with h heads and b body literals adds
 -- 7 + 5(h + b), a defeasible one with k options 66k + 5b + 24
 unfoldable pub translatedLength : Rule → ℕ

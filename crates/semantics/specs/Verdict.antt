@@ -9,7 +9,7 @@ use mathlib.Core.Option.{Option, none, some}
 use Rattle.literal.specs.declared.Literal.{Literal}
 use Rattle.literal.specs.declared.Literal.the-variants.{Signed, Defeated, Derived, RuleDefeated}
 use Rattle.literal.specs.Literal.{opposite}
-use Rattle.semantics.specs.Set.{LiteralSet, all, setOf}
+use Rattle.semantics.specs.Set.{LiteralSet, eachOf, setOf}
 use Rattle.semantics.specs.Rule.{Program, Remainder}
 use Rattle.semantics.specs.Meaning.{remainder, quotient, satisfied, models}
 
@@ -21,16 +21,16 @@ pub data Finding : Type 0 where
   answerSet : Finding
 
 -- the opposite of this literal is in s; marks have no opposite
-unfoldable pub opposed : Program → LiteralSet → Literal → Bool
-opposed p s (Signed a) = s (Signed (opposite a))
-opposed p s (Defeated t a) = false
-opposed p s (Derived t a) = false
-opposed p s (RuleDefeated n) = false
+unfoldable pub opposed : LiteralSet → Literal → Bool
+opposed s (Signed a) = s (Signed (opposite a))
+opposed s (Defeated t a) = false
+opposed s (Derived t a) = false
+opposed s (RuleDefeated n) = false
 
 -- the position, in a list whose first literal has position k, of the first literal whose opposite is in s
-unfoldable pub clashFrom : ℕ → Program → LiteralSet → List Literal → Option ℕ
-clashFrom k p s [] = none
-clashFrom k p s (l ∷ ls) = cond (opposed p s l) (some k) (clashFrom (k + 1) p s ls)
+unfoldable pub clashFrom : ℕ → LiteralSet → List Literal → Option ℕ
+clashFrom k s [] = none
+clashFrom k s (l ∷ ls) = cond (opposed s l) (some k) (clashFrom (k + 1) s ls)
 
 -- the number, in a program whose first rule has number k, of the first rule whose remainder in the quotient by s
 -- does not hold in s
@@ -54,12 +54,12 @@ firstSubset (l ∷ ls) test =
 
 -- a proper subset of ls that is a model of a quotient
 unfoldable pub smallerModel : List Remainder → List Literal → List Literal → Bool
-smallerModel qs ls s = not (all (setOf s) ls) && models qs (setOf s)
+smallerModel qs ls s = not (eachOf (setOf s) ls) && models qs (setOf s)
 
 -- the finding: clash, broken, smaller, tried in this order
 unfoldable pub finding : Program → List Literal → Finding
 finding p ls =
-    elim (clashFrom 1 p (setOf ls) ls) [
+    elim (clashFrom 1 (setOf ls) ls) [
       | some k ↦ clash k
       | none ↦
           elim (brokenFrom 1 p (setOf ls)) [

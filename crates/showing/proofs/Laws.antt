@@ -1,3 +1,4 @@
 pub mod Walk
 pub mod Shown
 pub mod Bounds
+pub mod Record

@@ -1,3 +1,3 @@
 pub mod Show
-pub mod Walk
 pub mod Part
+pub mod Code

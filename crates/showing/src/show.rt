@@ -13,21 +13,8 @@ use record::size::record_size;
 ghost use mathlib.Core.Path.{_≡_};
 ghost use Rattle.literal.specs.Limits.{source, plain};
 ghost use Rattle.showing.specs.Show.{shown, shownExtent};
-ghost use Rattle.showing.specs.Walk.{shownRefusal, walked, Walks};
+ghost use Rattle.showing.specs.Code.{walked, Walks};
 ghost use Rattle.showing.specs.Part.{PartAt};
-
-// What showing answers where reading refuses.
-fn refusal_of(a: Reading) -> Shown
-    ensures { λ r. ⌜ r ≡ shownRefusal a ⌝ }
-{
-    match a {
-        Reading::Rules(_) => Shown::Refused(Refusal {
-            reason: Reason::NoSuchRule,
-            place: 0,
-        }),
-        Reading::Refused(x) => Shown::Refused(x),
-    }
-}
 
 // The extent of record `number`, counted from 1 at the slice's start, over records that lie there whole.
 fn walk(s: &[u8], number: usize) -> Extent
@@ -45,31 +32,33 @@ fn walk(s: &[u8], number: usize) -> Extent
 }
 
 // The extent of rule `number`'s record, or read's refusal, or that there is no such rule.
-pub fn find(lim: Limits, s: &[u8], number: u32) -> Shown
+fn find(lim: Limits, s: &[u8], number: u32) -> Shown
     ensures { λ r. ⌜ r ≡ shown lim (now (s .entry)) number ⌝ }
 {
-    let a = read(lim, s);
-    let Reading::Rules(count) = a else {
-        return refusal_of(a);
-    };
-    let n = number as usize;
-    if n == 0 {
-        return Shown::Refused(Refusal {
-            reason: Reason::NoSuchRule,
-            place: 0,
-        });
+    let read = read(lim, s);
+    match read {
+        Reading::Refused(x) => Shown::Refused(x),
+        Reading::Count(count) => {
+            let n = number as usize;
+            if n == 0 {
+                return Shown::Refused(Refusal {
+                    reason: Reason::NoSuchRule,
+                    place: 0,
+                });
+            }
+            if count < n {
+                return Shown::Refused(Refusal {
+                    reason: Reason::NoSuchRule,
+                    place: 0,
+                });
+            }
+            Shown::At(walk(s, n))
+        }
     }
-    if count < n {
-        return Shown::Refused(Refusal {
-            reason: Reason::NoSuchRule,
-            place: 0,
-        });
-    }
-    Shown::At(walk(s, n))
 }
 
 // The record of rule `number` as a part of the slice; on a refusal the empty part at the slice's start.
-pub fn show(lim: Limits, s: &[u8], number: u32) -> &[u8]
+fn show(lim: Limits, s: &[u8], number: u32) -> &[u8]
     ensures { λ r. ⌜ PartAt (s .entry) r (shownExtent (shown lim (now (s .entry)) number)) ⌝ }
 {
     let a = find(lim, s, number);

@@ -1,1 +1,1 @@
-pub mod Sort
+pub mod Code

@@ -9,11 +9,11 @@ use record::Written;
 use rewrite::pass::write_rules;
 ghost use Rattle.literal.specs.Limits.{source};
 ghost use Rattle.record.specs.Meets.{Meets};
-ghost use Rattle.measure.specs.Measure.{Writable};
+ghost use Rattle.measure.specs.Code.{Writable};
 ghost use Rattle.translate.specs.Translate.{translated};
 
 // The translation of the program that `s` holds in a form, written to the start of `out`.
-pub fn translate(lim: Limits, s: &[u8], out: &mut [u8]) -> Written
+fn translate(lim: Limits, s: &[u8], out: &mut [u8]) -> Written
     requires { ⌜ Writable lim ⌝ }
     ensures { λ r. ⌜ Meets (translated lim (now (s .entry)) (now (out .entry))) r (now (out .exit)) ⌝ }
 {

@@ -10,9 +10,8 @@ use Rattle.literal.specs.declared.Limits.{Limits}
 use Rattle.semantics.specs.Verdict.{Finding, finding}
 use Rattle.record.specs.declared.Reason.the-variants.{OutputShort}
 use Rattle.record.specs.Refusal.{refusal}
-use Rattle.record.specs.Result.{Result, accepted, refused, andThen, refuseIf}
-use Rattle.record.specs.Reading.{parsed}
-use Rattle.litset.specs.Reading.{parsedSet}
+use Rattle.record.specs.Result.{Result, accepted, refused, refuseIf}
+use Rattle.inputs.specs.Inputs.{withInputs}
 use Rattle.judge.specs.Verdict.{verdictOf, witness}
 use Rattle.verdict.specs.declared.Check.{Check}
 use Rattle.verdict.specs.declared.Check.the-variants.{Found, Refused}
@@ -21,9 +20,8 @@ use Rattle.verdict.specs.declared.Check.the-variants.{Found, Refused}
 -- 9 exactly if the output slice is shorter than the set's record
 unfoldable pub found : Limits → List ℕ → List ℕ → List ℕ → Result Finding
 found F s k out =
-    andThen (parsed F s) (λ p.
-    andThen (parsedSet F (F .checked) k) (λ ls.
-    refuseIf (ltb (length out) (length k)) (refusal OutputShort 0) (accepted (finding p ls))))
+    withInputs F (F .checked) s k (λ p ls.
+    refuseIf (ltb (length out) (length k)) (refusal OutputShort 0) (accepted (finding p ls)))
 
 -- the answer of a check, and what the lent output holds then
 pub record Checked : Type 0 where

@@ -1,1 +1,1 @@
-pub mod Witness
+pub mod Code

@@ -7,7 +7,7 @@ ghost use mathlib.Core.Path.{_≡_};
 ghost use Prim.Native.Nat.{_+_, _*_, _≤_, _<_};
 ghost use lib.ListN.{length, take, drop};
 ghost use Rattle.buffer.specs.Write.{write};
-ghost use Rattle.witness.specs.Witness.{pickedOne, pickedRecord};
+ghost use Rattle.witness.specs.Code.{pickedOne, pickedRecord};
 
 // The literal at a place of the set's slice, copied where its position is in the mask. Answers how many bytes that is.
 fn copy_picked(set: &[u8], at: usize, model: u64, i: u32, out: &mut [u8], to: usize) -> usize

@@ -9,9 +9,10 @@ use showing::Extent;
 use showing::Shown;
 use verdict::Check;
 ghost use mathlib.Core.Path.{_≡_};
-ghost use Rattle.word.specs.Words.{refusalWord, readingWord, writtenWord, extentWord, shownWord, ShortPlace, ShortExtent, ShortReading, ShortWritten, ShortShown, ShortVerdict, ShortCheck, verdictWord, checkWord};
+ghost use Rattle.word.specs.Words.{refusalWord, readingWord, writtenWord, extentWord, shownWord, verdictWord, checkWord};
+ghost use Rattle.word.specs.Code.{ShortPlace, ShortExtent, ShortReading, ShortWritten, ShortShown, ShortVerdict, ShortCheck};
 
-pub fn refusal_word(x: Refusal) -> u64
+fn refusal_word(x: Refusal) -> u64
     requires { ⌜ ShortPlace x ⌝ }
     ensures { λ r. ⌜ r ≡ refusalWord x ⌝ }
 {
@@ -25,7 +26,7 @@ pub fn reading_word(a: Reading) -> u64
     ensures { λ r. ⌜ r ≡ readingWord a ⌝ }
 {
     match a {
-        Reading::Rules(n) => n as u64,
+        Reading::Count(n) => n as u64,
         Reading::Refused(x) => refusal_word(x),
     }
 }
@@ -40,7 +41,7 @@ pub fn written_word(a: Written) -> u64
     }
 }
 
-pub fn extent_word(e: Extent) -> u64
+fn extent_word(e: Extent) -> u64
     requires { ⌜ ShortExtent e ⌝ }
     ensures { λ r. ⌜ r ≡ extentWord e ⌝ }
 {
@@ -57,13 +58,13 @@ pub fn shown_word(a: Shown) -> u64
     }
 }
 
-pub fn verdict_word(v: Verdict) -> u64
+fn verdict_word(v: Verdict) -> u64
     requires { ⌜ ShortVerdict v ⌝ }
     ensures { λ r. ⌜ r ≡ verdictWord v ⌝ }
 {
     match v {
         Verdict::Clash(position) => 4294967296 + position as u64,
-        Verdict::Broken(rule) => 8589934592 + rule as u64,
+        Verdict::Broken(rule) => 8589934592 + rule.0 as u64,
         Verdict::Smaller(length) => 12884901888 + length as u64,
         Verdict::Yes => 0,
     }

@@ -1,13 +1,17 @@
-//! The static library's functions on slices. All `unsafe` code of the crate stands here.
+//! The static library's functions on slices, each with its word. All `unsafe` code of the crate stands here.
 //!
 //! Every pointer is a slice's, so it is not null and goes with its slice's length. The slice that is written to is
 //! borrowed alone, so it overlaps no other; the others are only read.
+//!
+//! tests/runner and bench have this file as a module of theirs: they call the library without the rest of the crate,
+//! and the functions are declared for Rust here alone.
 
 type Program = unsafe extern "C" fn(*const u8, usize) -> u64;
 type ProgramRule = unsafe extern "C" fn(*const u8, usize, u32) -> u64;
 type SliceOut = unsafe extern "C" fn(*const u8, usize, *mut u8, usize) -> u64;
 type ProgramSetOut = unsafe extern "C" fn(*const u8, usize, *const u8, usize, *mut u8, usize) -> u64;
 
+#[link(name = "aspda", kind = "static")]
 extern "C" {
     fn aspda_read_source(p: *const u8, n: usize) -> u64;
     fn aspda_read_plain(p: *const u8, n: usize) -> u64;

@@ -16,6 +16,9 @@
 //! | restriction of a plain set | [`restrict`] | [`restriction_bound`] |
 //! | is it an answer set? | [`check_source`], [`check_plain`] | [`witness_bound`] |
 //!
+//! What is not as document 01 asks is refused: a [`Refusal`] has the reason's number, the [`Slice`] of the call that it
+//! speaks of, and the place there. A call that refuses has written nothing.
+//!
 //! M3 of document 01: two choices, of which the first can defeat options of the second.
 //!
 //! ```
@@ -48,31 +51,38 @@ mod exports;
 mod refusal;
 mod verdict;
 
-pub use refusal::Refusal;
+use refusal::Operation;
+
+pub use refusal::{Part, Refusal, Slice};
 pub use verdict::Verdict;
 
 /// What every refusal's word has: 2^63.
 const REFUSED: u64 = 1 << 63;
 
-/// The high and the low 32 bits of a word, or the refusal that it is.
-fn halves(word: u64) -> Result<(u32, u32), Refusal> {
+/// The high and the low 32 bits of an operation's word, or the refusal that it is.
+fn halves(operation: Operation, word: u64) -> Result<(u32, u32), Refusal> {
     let (high, low) = ((word >> 32) as u32, word as u32);
     if word & REFUSED == 0 {
         Ok((high, low))
     } else {
-        Err(Refusal { number: high as u8, place: low })
+        Err(operation.refusal(high as u8, low))
     }
 }
 
+/// The number of rules that a reading's word gives.
+fn counted(word: u64) -> Result<u32, Refusal> {
+    halves(Operation::Read, word).map(|(_, rules)| rules)
+}
+
 /// The part of `out` that was written: the word gives its length.
-fn written(word: u64, out: &mut [u8]) -> Result<&mut [u8], Refusal> {
-    let (_, length) = halves(word)?;
+fn written(operation: Operation, word: u64, out: &mut [u8]) -> Result<&mut [u8], Refusal> {
+    let (_, length) = halves(operation, word)?;
     Ok(&mut out[..length as usize])
 }
 
 /// The part of the program where a record lies: the word gives its start and length.
 fn shown(word: u64, program: &[u8]) -> Result<&[u8], Refusal> {
-    let (start, length) = halves(word)?;
+    let (start, length) = halves(Operation::Show, word)?;
     Ok(&program[start as usize..][..length as usize])
 }
 
@@ -81,13 +91,14 @@ fn shown(word: u64, program: &[u8]) -> Result<&[u8], Refusal> {
 /// ```
 /// let m1 = b"D:\0\x07\x01\0\0\0\0\0\0\x01E:\0\x01"; // tag 7: 1
 /// assert_eq!(aspda::read_source(m1), Ok(1));
-/// assert_eq!(aspda::read_source(b"X:"), Err(aspda::Refusal { number: 3, place: 0 }));
+/// let refusal = aspda::Refusal { number: 3, slice: aspda::Slice::Program, place: 0 };
+/// assert_eq!(aspda::read_source(b"X:"), Err(refusal));
 /// ```
 ///
 /// # Errors
 /// Refusals 1 to 8.
 pub fn read_source(program: &[u8]) -> Result<u32, Refusal> {
-    halves(exports::read_source(program)).map(|(_, rules)| rules)
+    counted(exports::read_source(program))
 }
 
 /// The number of rules of a plain program.
@@ -101,7 +112,7 @@ pub fn read_source(program: &[u8]) -> Result<u32, Refusal> {
 /// # Errors
 /// Refusals 1 to 6 and 8.
 pub fn read_plain(program: &[u8]) -> Result<u32, Refusal> {
-    halves(exports::read_plain(program)).map(|(_, rules)| rules)
+    counted(exports::read_plain(program))
 }
 
 /// The length of a buffer that suffices for a source's translation: thirteen times the source's.
@@ -140,7 +151,7 @@ pub fn translation_bound(source: &[u8]) -> usize {
 /// # Errors
 /// Refusals 1 to 9.
 pub fn translate<'o>(source: &[u8], out: &'o mut [u8]) -> Result<&'o mut [u8], Refusal> {
-    written(exports::translate(source, out), out)
+    written(Operation::Translate, exports::translate(source, out), out)
 }
 
 /// The length of a buffer that suffices for a quotient: the program's.
@@ -164,7 +175,7 @@ pub fn quotient_bound(program: &[u8]) -> usize {
 /// # Errors
 /// Refusals 1 to 12; a refusal of the program comes before one of the set.
 pub fn quotient_source<'o>(program: &[u8], set: &[u8], out: &'o mut [u8]) -> Result<&'o mut [u8], Refusal> {
-    written(exports::quotient_source(program, set, out), out)
+    written(Operation::Quotient, exports::quotient_source(program, set, out), out)
 }
 
 /// Writes the quotient of a plain program by a set of plain literals. [`quotient_bound`] gives a length that suffices.
@@ -180,7 +191,7 @@ pub fn quotient_source<'o>(program: &[u8], set: &[u8], out: &'o mut [u8]) -> Res
 /// # Errors
 /// Refusals 1 to 6 and 8 to 12; a refusal of the program comes before one of the set.
 pub fn quotient_plain<'o>(program: &[u8], set: &[u8], out: &'o mut [u8]) -> Result<&'o mut [u8], Refusal> {
-    written(exports::quotient_plain(program, set, out), out)
+    written(Operation::Quotient, exports::quotient_plain(program, set, out), out)
 }
 
 /// The length of a buffer that suffices for every extension.
@@ -206,7 +217,7 @@ pub const EXTENSION_BOUND: usize = 25_484;
 /// # Errors
 /// Refusals 1 to 12; a refusal of the program comes before one of the set.
 pub fn extend<'o>(source: &[u8], set: &[u8], out: &'o mut [u8]) -> Result<&'o mut [u8], Refusal> {
-    written(exports::extend(source, set, out), out)
+    written(Operation::Extend, exports::extend(source, set, out), out)
 }
 
 /// The length of a buffer that suffices for a set's restriction: the set's.
@@ -227,7 +238,7 @@ pub fn restriction_bound(set: &[u8]) -> usize {
 /// # Errors
 /// Refusals 9 to 12.
 pub fn restrict<'o>(set: &[u8], out: &'o mut [u8]) -> Result<&'o mut [u8], Refusal> {
-    written(exports::restrict(set, out), out)
+    written(Operation::Restrict, exports::restrict(set, out), out)
 }
 
 /// The length that a check asks of its buffer, and that suffices: the set's.

@@ -1,23 +1,92 @@
-//! Why an operation refuses, and where.
+//! Why an operation refuses, and what the refusal speaks of.
 
 use std::error::Error;
 use std::fmt;
 
-/// A refusal: document 01's number of the reason, and the byte offset of its place.
+/// The slice of a call that a refusal speaks of.
+#[derive(Clone, Copy, Debug, PartialEq, Eq, Hash)]
+pub enum Slice {
+    /// The program. A rule number that it does not have is refused as the program's, too.
+    Program,
+    /// The set.
+    Set,
+    /// The slice that the result would be written to.
+    Output,
+}
+
+/// What of its slice a refusal speaks of.
+#[derive(Clone, Copy, Debug, PartialEq, Eq, Hash)]
+pub enum Part {
+    /// The slice as a whole; the place is 0.
+    Whole,
+    /// A record: a rule's, or a program's end record.
+    Record,
+    /// A literal of a rule or of the set.
+    Literal,
+}
+
+/// An operation, as far as its refusals go: they speak of the same slices in both forms.
+#[derive(Clone, Copy)]
+pub(crate) enum Operation {
+    Read,
+    Show,
+    Translate,
+    Quotient,
+    Extend,
+    Restrict,
+    Check,
+}
+
+impl Operation {
+    /// The refusal that this operation gives by a number and a place.
+    pub(crate) fn refusal(self, number: u8, place: u32) -> Refusal {
+        Refusal { number, slice: self.slice(number), place }
+    }
+
+    /// The slice that a number speaks of: document 01, "Operations and what each refuses".
+    fn slice(self, number: u8) -> Slice {
+        use Operation::*;
+        match (self, number) {
+            (Translate | Quotient | Extend | Restrict | Check, 9) => Slice::Output,
+            (Quotient | Extend | Check, 10..=12) | (Restrict, _) => Slice::Set,
+            // 1 to 8; and 13, for it is the program that has no such rule.
+            (Read | Show | Translate | Quotient | Extend | Check, _) => Slice::Program,
+        }
+    }
+}
+
+/// A refusal: document 01's number of the reason, the slice that it speaks of, and the byte offset of its place there.
 ///
-/// Numbers 1 to 8 are a program's and 10 to 12 a set's, with the offset in that slice; 9 (the output slice) and 13
-/// (the rule number) have place 0. A call that refuses has written nothing.
+/// | Number | Slice | Part | Operations |
+/// |---|---|---|---|
+/// | 1 | program | whole | all but restrict |
+/// | 2, 3, 4, 6, 8 | program | record | all but restrict |
+/// | 5 | program | literal | all but restrict |
+/// | 7 | program | record | all on sources |
+/// | 9 | output | whole | translate, quotient, extend, restrict, check |
+/// | 10, 12 | set | whole | quotient, extend, restrict, check |
+/// | 11 | set | literal | quotient, extend, restrict, check |
+/// | 13 | program | whole | show |
+///
+/// A call that refuses has written nothing.
 ///
 /// ```
+/// use aspda::{Part, Refusal, Slice};
 /// let refusal = aspda::read_source(&[]).unwrap_err();
-/// assert_eq!(refusal, aspda::Refusal { number: 2, place: 0 });
+/// assert_eq!(refusal, Refusal { number: 2, slice: Slice::Program, place: 0 });
 /// assert_eq!(refusal.to_string(), "refused with 2 at byte 0: a record is cut short");
+///
+/// // The second literal of the set is not above the first.
+/// let refusal = aspda::restrict(b"A:\0\x02\0\0\0\0\x02\0\0\0\0\x01", &mut []).unwrap_err();
+/// assert_eq!((refusal.slice, refusal.part(), refusal.place), (Slice::Set, Part::Literal, 9));
 /// ```
 #[derive(Clone, Copy, Debug, PartialEq, Eq, Hash)]
 pub struct Refusal {
     /// Document 01's number of the reason, 1 to 13.
     pub number: u8,
-    /// The offset in the refused slice where the record (or, for 5 and 11, the literal) begins or would begin.
+    /// The slice of the call that the refusal speaks of.
+    pub slice: Slice,
+    /// The offset in that slice where the refused part begins or would begin.
     pub place: u32,
 }
 
@@ -25,7 +94,8 @@ impl Refusal {
     /// The reason in words: one line for each number.
     ///
     /// ```
-    /// assert_eq!(aspda::Refusal { number: 13, place: 0 }.reason(), "the program has no rule of this number");
+    /// let empty = b"E:\0\0";
+    /// assert_eq!(aspda::show_plain(empty, 1).unwrap_err().reason(), "the program has no rule of this number");
     /// ```
     pub fn reason(&self) -> &'static str {
         match self.number {
@@ -43,6 +113,26 @@ impl Refusal {
             12 => "the set has too many literals",
             13 => "the program has no rule of this number",
             _ => "a reason that this crate does not know",
+        }
+    }
+
+    /// What of the slice is refused. The place is where it begins or would begin.
+    ///
+    /// ```
+    /// use aspda::Part;
+    /// // Bytes behind the end record.
+    /// assert_eq!(aspda::read_source(b"E:\0\0E:").unwrap_err().part(), Part::Record);
+    /// // The rule's head is atom 501.
+    /// let refusal = aspda::read_source(b"S:\0\0\x01\0\0\0\0\0\x01\xF5E:\0\x01").unwrap_err();
+    /// assert_eq!((refusal.part(), refusal.place), (Part::Literal, 7));
+    /// // A source has at most 63,236 bytes.
+    /// assert_eq!(aspda::read_source(&[0; 63_237]).unwrap_err().part(), Part::Whole);
+    /// ```
+    pub fn part(&self) -> Part {
+        match self.number {
+            2 | 3 | 4 | 6 | 7 | 8 => Part::Record,
+            5 | 11 => Part::Literal,
+            _ => Part::Whole,
         }
     }
 }

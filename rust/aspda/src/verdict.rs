@@ -1,6 +1,6 @@
 //! What the check of a proposed set finds.
 
-use crate::{halves, Refusal};
+use crate::{halves, Operation, Refusal};
 
 // The numbers of the verdicts in a word, as include/aspda.h has them.
 const YES: u32 = 0;
@@ -24,7 +24,7 @@ pub enum Verdict<'o> {
 impl<'o> Verdict<'o> {
     /// The verdict that a check's word gives; a witness is the part of `out` that the check wrote.
     pub(crate) fn from_word(word: u64, out: &'o [u8]) -> Result<Verdict<'o>, Refusal> {
-        let (verdict, value) = halves(word)?;
+        let (verdict, value) = halves(Operation::Check, word)?;
         Ok(match verdict {
             YES => Verdict::Yes,
             CLASH => Verdict::Clash(value),

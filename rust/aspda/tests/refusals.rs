@@ -1,49 +1,213 @@
-//! Each of document 01's refusal numbers, by way of the crate: number, place, and a reason of its own.
+//! Each of document 01's refusal numbers, by way of the crate, for each operation that can give it: number, place, the
+//! slice and the part that it speaks of, and a reason of its own.
 
-use aspda::Refusal;
+use aspda::{Part, Refusal, Slice};
+use std::collections::BTreeSet;
 
 const ONE: &[u8] = b"S:\0\0\x01\0\0\0\0\0\0\x01E:\0\x01"; // 1
 const EMPTY: &[u8] = b"A:\0\0";
 
-fn refused<T: std::fmt::Debug>(answer: Result<T, Refusal>, number: u8, place: u32) {
-    assert_eq!(answer.unwrap_err(), Refusal { number, place });
+/// What is handed to a call; an operation takes what it needs.
+struct Inputs<'a> {
+    program: &'a [u8],
+    set: &'a [u8],
+    rule: u32,
+    room: usize,
+}
+
+/// Inputs that every operation takes.
+const ACCEPTED: Inputs = Inputs { program: ONE, set: EMPTY, rule: 1, room: 100 };
+
+type Call = fn(&Inputs, &mut [u8]) -> Result<(), Refusal>;
+
+/// An operation of a form, and the numbers by which it can refuse its program, its set and its output.
+struct Operation {
+    name: &'static str,
+    call: Call,
+    program: &'static [u8],
+    set: &'static [u8],
+    output: &'static [u8],
+    /// As many literals as its set may have.
+    literals: usize,
+}
+
+const SOURCE: &[u8] = &[1, 2, 3, 4, 5, 6, 7, 8];
+const PLAIN: &[u8] = &[1, 2, 3, 4, 5, 6, 8];
+const SHOW_SOURCE: &[u8] = &[1, 2, 3, 4, 5, 6, 7, 8, 13];
+const SHOW_PLAIN: &[u8] = &[1, 2, 3, 4, 5, 6, 8, 13];
+const SET: &[u8] = &[10, 11, 12];
+const OUTPUT: &[u8] = &[9];
+const NONE: &[u8] = &[];
+
+fn operation(name: &'static str, numbers: [&'static [u8]; 3], literals: usize, call: Call) -> Operation {
+    let [program, set, output] = numbers;
+    Operation { name, call, program, set, output, literals }
+}
+
+#[rustfmt::skip]
+fn operations() -> [Operation; 11] {
+    [
+        operation("read_source", [SOURCE, NONE, NONE], 0, |i, _| aspda::read_source(i.program).map(drop)),
+        operation("read_plain", [PLAIN, NONE, NONE], 0, |i, _| aspda::read_plain(i.program).map(drop)),
+        operation("show_source", [SHOW_SOURCE, NONE, NONE], 0, |i, _| aspda::show_source(i.program, i.rule).map(drop)),
+        operation("show_plain", [SHOW_PLAIN, NONE, NONE], 0, |i, _| aspda::show_plain(i.program, i.rule).map(drop)),
+        operation("translate", [SOURCE, NONE, OUTPUT], 0, |i, out| aspda::translate(i.program, out).map(drop)),
+        operation("quotient_source", [SOURCE, SET, OUTPUT], 1_000, |i, out| {
+            aspda::quotient_source(i.program, i.set, out).map(drop)
+        }),
+        operation("quotient_plain", [PLAIN, SET, OUTPUT], 5_352, |i, out| {
+            aspda::quotient_plain(i.program, i.set, out).map(drop)
+        }),
+        operation("extend", [SOURCE, SET, OUTPUT], 1_000, |i, out| aspda::extend(i.program, i.set, out).map(drop)),
+        operation("restrict", [NONE, SET, OUTPUT], 5_352, |i, out| aspda::restrict(i.set, out).map(drop)),
+        operation("check_source", [SOURCE, SET, OUTPUT], 64, |i, out| {
+            aspda::check_source(i.program, i.set, out).map(drop)
+        }),
+        operation("check_plain", [PLAIN, SET, OUTPUT], 64, |i, out| aspda::check_plain(i.program, i.set, out).map(drop)),
+    ]
+}
+
+impl Operation {
+    /// Calls the operation; a refusal must leave the buffer as it was.
+    fn refusal(&self, inputs: &Inputs) -> Option<Refusal> {
+        let mut out = vec![0xAA; inputs.room];
+        let refusal = (self.call)(inputs, &mut out).err()?;
+        assert!(out.iter().all(|byte| *byte == 0xAA), "{}: {refusal} wrote to its buffer", self.name);
+        Some(refusal)
+    }
+
+    fn refuses(&self, inputs: &Inputs, number: u8, slice: Slice, (part, place): (Part, u32)) {
+        let refusal = self.refusal(inputs).unwrap_or_else(|| panic!("{}: {number} expected", self.name));
+        assert_eq!(refusal, Refusal { number, slice, place }, "{}", self.name);
+        assert_eq!(refusal.part(), part, "{}: {number}", self.name);
+    }
+}
+
+/// A program that both forms refuse by this number (7 the source form alone), and what is wrong in it.
+fn faulty_program(number: u8) -> (Vec<u8>, (Part, u32)) {
+    let program: (&[u8], (Part, u32)) = match number {
+        1 => return (vec![0; 317_445], (Part::Whole, 0)),
+        2 => (b"S:\0\0\0\0\0S:\0", (Part::Record, 7)),
+        3 => (b"S:\0\0\0\0\0X:", (Part::Record, 7)),
+        4 => (b"S:\0\0\0\0\0S:\0\0\x11\0\0", (Part::Record, 7)),
+        5 => (b"S:\0\0\x01\0\0\0\0\0\x01\xF5E:\0\x01", (Part::Literal, 7)),
+        6 => (b"S:\0\0\0\0\0S:\0\x01\0\0\0", (Part::Record, 7)),
+        7 => (b"S:\0\0\0\0\0D:\0\x01\0\0\0E:\0\x02", (Part::Record, 7)),
+        8 => (b"S:\0\0\0\0\0E:\0\x02", (Part::Record, 7)),
+        _ => panic!("{number} is no number of a program's bytes"),
+    };
+    (program.0.to_vec(), program.1)
+}
+
+/// So many literals, ascending: defeat marks, of which there are enough.
+fn set_of(literals: usize) -> Vec<u8> {
+    let marks = (1..=200).flat_map(|tag| (1..=250).map(move |atom| [2, 0, tag, 0, atom]));
+    let mut record = b"A:".to_vec();
+    record.extend((literals as u16).to_be_bytes());
+    record.extend(marks.take(literals).flatten());
+    record
+}
+
+/// A set that is refused by this number where at most so many literals are taken, and what is wrong in it.
+fn faulty_set(number: u8, literals: usize) -> (Vec<u8>, (Part, u32)) {
+    match number {
+        10 => (b"A:\0\x01".to_vec(), (Part::Whole, 0)),
+        11 => (b"A:\0\x02\0\0\0\0\x02\0\0\0\0\x01".to_vec(), (Part::Literal, 9)),
+        12 => (set_of(literals + 1), (Part::Whole, 0)),
+        _ => panic!("{number} is no number of a set"),
+    }
 }
 
 #[test]
-fn programs_are_refused_with_1_to_8() {
-    refused(aspda::read_source(&[0; 63_237]), 1, 0);
-    refused(aspda::read_source(b"S"), 2, 0);
-    refused(aspda::read_plain(b"D:"), 3, 0);
-    refused(aspda::read_source(b"S:\0\0\x11\0\0"), 4, 0);
-    refused(aspda::read_source(b"S:\0\0\x01\0\0\0\0\0\x01\xF5E:\0\x01"), 5, 7);
-    refused(aspda::read_source(b"S:\0\0\0\0\0S:\0\x01\0\0\0"), 6, 7);
-    refused(aspda::read_source(b"D:\0\x01\0\0\0E:\0\x01"), 7, 0);
-    refused(aspda::read_plain(b"S:\0\0\0\0\0E:\0\x02"), 8, 7);
+fn what_each_operation_takes_is_refused_by_none() {
+    for operation in operations() {
+        assert_eq!(operation.refusal(&ACCEPTED), None, "{}", operation.name);
+        let most = set_of(operation.literals);
+        let ample = Inputs { set: &most, room: 30_000, ..ACCEPTED };
+        assert_eq!(operation.refusal(&ample), None, "{}", operation.name);
+    }
 }
 
 #[test]
-fn buffers_sets_and_rule_numbers_are_refused_with_9_to_13() {
-    refused(aspda::quotient_source(ONE, EMPTY, &mut [0; 15]), 9, 0);
-    refused(aspda::check_plain(ONE, EMPTY, &mut [0; 3]), 9, 0);
-    refused(aspda::quotient_plain(ONE, b"A:\0\x01", &mut []), 10, 0);
-    refused(aspda::extend(ONE, b"A:\0\x02\0\0\0\0\x02\0\0\0\0\x01", &mut []), 11, 9);
-    let mut set = b"A:\0\x41".to_vec(); // 65 literals
-    set.extend((1..=65).flat_map(|atom| [0, 0, 0, 0, atom]));
-    refused(aspda::check_source(ONE, &set, &mut [0; 329]), 12, 0);
+fn numbers_1_to_8_and_13_speak_of_the_program() {
+    let mut reached = 0;
+    for operation in operations() {
+        for &number in operation.program {
+            reached += 1;
+            if number == 13 {
+                for rule in [0, 2] {
+                    operation.refuses(&Inputs { rule, ..ACCEPTED }, 13, Slice::Program, (Part::Whole, 0));
+                }
+                continue;
+            }
+            let (program, wrong) = faulty_program(number);
+            operation.refuses(&Inputs { program: &program, ..ACCEPTED }, number, Slice::Program, wrong);
+            // The program's refusal comes before the set's and the output's.
+            let all_wrong = Inputs { program: &program, set: b"", rule: 0, room: 0 };
+            operation.refuses(&all_wrong, number, Slice::Program, wrong);
+        }
+    }
+    assert_eq!(reached, 8 + 7 + 9 + 8 + 8 + 8 + 7 + 8 + 8 + 7);
+}
+
+#[test]
+fn numbers_10_to_12_speak_of_the_set() {
+    let mut reached = 0;
+    for operation in operations() {
+        for &number in operation.set {
+            reached += 1;
+            let (set, wrong) = faulty_set(number, operation.literals);
+            operation.refuses(&Inputs { set: &set, room: 30_000, ..ACCEPTED }, number, Slice::Set, wrong);
+            // The set's refusal comes before the output's.
+            operation.refuses(&Inputs { set: &set, room: 0, ..ACCEPTED }, number, Slice::Set, wrong);
+        }
+    }
+    assert_eq!(reached, 6 * 3);
+}
+
+#[test]
+fn number_9_speaks_of_the_output() {
+    let mut reached = 0;
+    for operation in operations() {
+        for &number in operation.output {
+            reached += 1;
+            // The result's length, of a check the set's.
+            let least = match operation.name {
+                "translate" | "quotient_source" | "quotient_plain" => ONE.len(),
+                _ => EMPTY.len(),
+            };
+            assert_eq!(operation.refusal(&Inputs { room: least, ..ACCEPTED }), None, "{}", operation.name);
+            for room in 0..least {
+                operation.refuses(&Inputs { room, ..ACCEPTED }, number, Slice::Output, (Part::Whole, 0));
+            }
+        }
+    }
+    assert_eq!(reached, 7);
+}
+
+#[test]
+fn limits_are_those_of_the_form() {
+    let refused = |answer: Result<u32, Refusal>| answer.unwrap_err().number;
+    assert_eq!(refused(aspda::read_source(&[0; 63_237])), 1);
+    assert_eq!(refused(aspda::read_plain(&[0; 63_237])), 3);
+    assert_eq!(refused(aspda::read_plain(b"D:")), 3);
+    let set = set_of(65);
+    assert_eq!(aspda::check_source(ONE, &set, &mut [0; 329]).unwrap_err().number, 12);
     assert_eq!(aspda::restrict(&set, &mut [0; 329]).unwrap(), &set[..]);
-    refused(aspda::show_source(ONE, 0), 13, 0);
 }
 
 #[test]
 fn a_refusal_leaves_the_buffer() {
     let mut out = [0xAA; 93];
-    refused(aspda::translate(b"D:\0\x07\x01\0\0\0\0\0\0\x01E:\0\x01", &mut out), 9, 0);
+    let refusal = aspda::translate(b"D:\0\x07\x01\0\0\0\0\0\0\x01E:\0\x01", &mut out).unwrap_err();
+    assert_eq!(refusal, Refusal { number: 9, slice: Slice::Output, place: 0 });
     assert_eq!(out, [0xAA; 93]);
 }
 
 #[test]
 fn each_number_has_a_reason_of_its_own() {
-    let reasons: std::collections::BTreeSet<_> = (1..=13).map(|number| Refusal { number, place: 0 }.reason()).collect();
+    let reason = |number| Refusal { number, slice: Slice::Program, place: 0 }.reason();
+    let reasons: BTreeSet<_> = (1..=13).map(reason).collect();
     assert_eq!(reasons.len(), 13);
-    assert!(!reasons.contains(Refusal { number: 14, place: 0 }.reason()));
+    assert!(!reasons.contains(reason(14)));
 }

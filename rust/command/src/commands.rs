@@ -3,7 +3,7 @@
 use crate::arguments::{Operation, Request};
 use crate::files::{self, Either, Program, Set};
 use crate::text::{self, Names};
-use aspda::{Refusal, Verdict};
+use aspda::{Refusal, Slice, Verdict};
 
 /// What goes to standard output, and whether the exit status is 0.
 pub struct Outcome {
@@ -82,11 +82,12 @@ fn program_and_set(request: &Request) -> Result<(Program, Set), String> {
     Ok((program, set))
 }
 
-/// A refusal of a call with a program and a set, in words: numbers 10 to 12 are the set's.
+/// A refusal of a call with a program and a set, in words.
 fn refused(refusal: Refusal, program: &Program, set: &Set) -> String {
-    match refusal.number {
-        10..=12 => set.refused(refusal),
-        _ => program.refused(refusal),
+    match refusal.slice {
+        Slice::Set => set.refused(refusal),
+        // A result that had too little room is the program's.
+        Slice::Program | Slice::Output => program.refused(refusal),
     }
 }
 

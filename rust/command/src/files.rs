@@ -1,9 +1,10 @@
 //! Programs and sets from files or from the command line, and results into files.
 
 use crate::text::{self, Encoded, Names, Parsed};
-use aspda::Refusal;
+use aspda::{Part, Refusal};
 use std::ffi::OsStr;
 use std::fs;
+use std::ops::Range;
 use std::path::Path;
 
 /// A program's bytes, with what its text gives beside them.
@@ -12,8 +13,8 @@ pub struct Program {
     file: String,
     pub bytes: Vec<u8>,
     pub names: Names,
-    /// Of each rule that was written as text: where its record starts, and its line.
-    rules: Vec<(usize, usize)>,
+    /// Of each rule that was written as text: where its record lies, and its line.
+    rules: Vec<(Range<usize>, usize)>,
 }
 
 /// A set's record.
@@ -95,19 +96,25 @@ impl Program {
             Content::Text(text) => text,
         };
         let Parsed { rules, lines, names } = text::parse_program(&text).map_err(|error| format!("{file}: {error}"))?;
-        let Encoded { bytes, starts } = text::encode_program(&rules);
-        Ok(Program { file, bytes, names, rules: starts.into_iter().zip(lines).collect() })
+        let Encoded { bytes, records } = text::encode_program(&rules);
+        Ok(Program { file, bytes, names, rules: records.into_iter().zip(lines).collect() })
     }
 
     /// A refusal of this program in words; of a rule that was written as text with its number and line.
     pub fn refused(&self, refusal: Refusal) -> String {
-        let rule = self.rules.iter().rposition(|(start, _)| *start <= refusal.place as usize);
-        match rule {
-            // The other numbers are not met in a rule's record, whatever their place.
-            Some(index) if (2..=7).contains(&refusal.number) => {
-                format!("{}: {refusal} (rule {}, line {})", self.file, index + 1, self.rules[index].1)
+        match self.refused_rule(refusal) {
+            Some(index) => format!("{}: {refusal} (rule {}, line {})", self.file, index + 1, self.rules[index].1),
+            None => format!("{}: {refusal}", self.file),
+        }
+    }
+
+    /// The index of the rule whose record holds what is refused.
+    fn refused_rule(&self, refusal: Refusal) -> Option<usize> {
+        match refusal.part() {
+            Part::Whole => None,
+            Part::Record | Part::Literal => {
+                self.rules.iter().position(|(record, _)| record.contains(&(refusal.place as usize)))
             }
-            _ => format!("{}: {refusal}", self.file),
         }
     }
 }
@@ -127,8 +134,8 @@ impl Set {
 
     /// A refusal of this set in words; of a literal that was written as text with that literal.
     pub fn refused(&self, refusal: Refusal) -> String {
-        match &self.names {
-            Some(names) if refusal.number == 11 => {
+        match (&self.names, refusal.part()) {
+            (Some(names), Part::Literal) => {
                 let literal = text::decode_literal(&self.bytes[refusal.place as usize..]);
                 format!("{}: {refusal} ({})", self.file, text::list_literal(literal, names))
             }

@@ -5,33 +5,30 @@ use native.Mathlib.Omega.{arith}
 use mathlib.Core.Path.{_≡_, refl, sym, ap, subst}
 use mathlib.Core.List.{List, _∷_}
 use mathlib.Core.Bool.{Bool, true, false}
-use lib.Dec.{leb, ltb}
+use lib.Dec.{ltb}
 use lib.ListN.{length, length-append}
 use Rattle.buffer.specs.Bytes.{Bytes}
 use Rattle.literal.specs.declared.Limits.{Limits}
 use Rattle.literal.specs.declared.Literal.{Literal}
 use Rattle.semantics.specs.Rule.{Program}
-use Rattle.semantics.specs.Form.{keepsRules}
 use Rattle.semantics.specs.Verdict.{Finding, clash, broken, smaller, answerSet, finding}
-use Rattle.semantics.proofs.Laws.Tests.{first}
-use Rattle.semantics.proofs.Laws.Form.{keeps-count}
-use Rattle.semantics.proofs.Laws.Part.{Part, nil, absent, present}
+use Rattle.semantics.specs.Findings.{Part, nil, absent, present}
 use Rattle.semantics.proofs.Laws.Verdict.{finding-clash, finding-broken, finding-smaller}
 use Rattle.record.specs.declared.Reason.the-variants.{OutputShort}
 use Rattle.record.specs.Refusal.{refusal}
 use Rattle.record.specs.Result.{Result, accepted, refused, andThen, refuseIf}
 use Rattle.record.specs.Reading.{parsed}
-use Rattle.record.specs.Layout.{encodedProgram, keeps}
-use Rattle.record.proofs.Laws.Reading.{parsed-sound}
 use Rattle.record.proofs.Laws.Bounds.{parsed-placed}
 use Rattle.record.proofs.Laws.Places.{Placed}
 use Rattle.litset.specs.Reading.{parsedSet}
+use Rattle.inputs.specs.Inputs.{withInputs}
 use Rattle.litset.proofs.Laws.Reading.{parsed-set-sound, keeps-set-most, length-encoded-set}
 use Rattle.litset.proofs.Laws.Places.{parsed-set-placed}
 use Rattle.verdict.specs.declared.Check.{Check}
 use Rattle.judge.specs.Verdict.{verdictOf}
 use Rattle.verdict.specs.Check.{found, checkedOf, checked}
-use Rattle.word.specs.Words.{ShortVerdict, ShortCheck}
+use Rattle.word.specs.Code.{ShortVerdict, ShortCheck}
+use Rattle.aspda.proofs.Laws.Lengths.{read-few}
 
 -- a part is no longer than its list
 part-short : {s ls : List Literal} → Part s ls → length s ≤ length ls
@@ -56,17 +53,13 @@ module _ (F : Limits) (long : F .length < 4294967296) (rules : F .rules < 429496
   Short (accepted f) = ShortVerdict (verdictOf f)
   Short (refused x) = x .place < 4294967296
 
-  kept : (p : Program) → parsed F s ≡ accepted p → length p ≤ F .rules
-  unfolding keeps
-  kept p e = keeps-count F p (first (keepsRules F p) (leb (length (encodedProgram p)) (F .length)) (parsed-sound F s p bs e .1))
-
   found-short : Short (found F s k out)
-  unfolding found andThen refuseIf Short
+  unfolding found withInputs andThen refuseIf Short
   found-short = go (parsed F s) refl (parsed-placed F s)
     where
       room : (p : Program) (ls : List Literal) → parsed F s ≡ accepted p → parsedSet F (F .checked) k ≡ accepted ls → (b : Bool) → Short (refuseIf b (refusal OutputShort 0) (accepted (finding p ls)))
       room p ls e q true = omega arith
-      room p ls e q false = finding-short p ls (omega (arith, rules, kept p e)) (omega (arith, sets, keeps-set-most F (F .checked) ls (parsed-set-sound F (F .checked) k ls bk q .1))) (finding p ls) refl
+      room p ls e q false = finding-short p ls (omega (arith, rules, read-few F s p bs e)) (omega (arith, sets, keeps-set-most F (F .checked) ls (parsed-set-sound F (F .checked) k ls bk q .1))) (finding p ls) refl
 
       set : (p : Program) → parsed F s ≡ accepted p → (r : Result (List Literal)) → parsedSet F (F .checked) k ≡ r → Placed (4 + 5 * F .checked) r → Short (andThen r (λ ls. refuseIf (ltb (length out) (length k)) (refusal OutputShort 0) (accepted (finding p ls))))
       set p e (accepted ls) q h = room p ls e q (ltb (length out) (length k))

@@ -23,11 +23,12 @@ use Rattle.showing.proofs.Laws.Bounds.{shown-place, shown-end}
 use Rattle.translate.specs.Translate.{translatedBytes, translated}
 use Rattle.litset.specs.Layout.{encodedSet}
 use Rattle.litset.specs.Reading.{parsedSet}
+use Rattle.inputs.specs.Inputs.{withInputs}
 use Rattle.litset.proofs.Laws.Places.{parsed-set-placed}
 use Rattle.quotient.specs.Quotient.{quotientProgram, quotientBytes, quotiented}
 use Rattle.extend.specs.Extend.{extensionList, extensionBytes, extended}
 use Rattle.restrict.specs.Restrict.{restrictionList, restrictionBytes, restricted}
-use Rattle.word.specs.Words.{ShortReading, ShortWritten, ShortShown}
+use Rattle.word.specs.Code.{ShortReading, ShortWritten, ShortShown}
 
 -- a place within a larger bound
 placed-wider : {A : Type 0} (j k : ℕ) (r : Result A) → j ≤ k → Placed j r → Placed k r
@@ -37,7 +38,7 @@ placed-wider j k (refused x) h p = omega arith
 -- a form whose length fits 31 bits
 module _ (F : Limits) (small : F .length < 2147483648) (s : List ℕ) where
   pub reading-short : (a : Reading) → a ≡ reading F s → ShortReading a
-  reading-short (Reading.Rules n) e = tt
+  reading-short (Reading.Count n) e = tt
   reading-short (Reading.Refused x) e = omega (arith, reading-place F s x (sym e))
 
   pub shown-short : (n : ℕ) (a : Shown) → Bytes s → a ≡ shown F s n → ShortShown a
@@ -64,11 +65,11 @@ module _ (F : Limits) (small : F .length < 2147483648) (s : List ℕ) where
       and-then-placed (F .length) (parsedSet F (F .literals) k) (λ ls. accepted (make p ls)) (placed-wider (4 + 5 * F .literals) (F .length) (parsedSet F (F .literals) k) h (parsed-set-placed F (F .literals) k)) (λ ls. tt))) a e
 
   pub quotiented-short : 4 + 5 * F .literals ≤ F .length → (k out : List ℕ) (a : Written) → a ≡ quotiented F s k out .answer → ShortWritten a
-  unfolding quotiented quotientBytes
+  unfolding quotiented quotientBytes withInputs
   quotiented-short h k out a e = made-short h k out (λ p ls. encodedProgram (quotientProgram p ls)) a e
 
   pub extended-short : 4 + 5 * F .literals ≤ F .length → (k out : List ℕ) (a : Written) → a ≡ extended F s k out .answer → ShortWritten a
-  unfolding extended extensionBytes
+  unfolding extended extensionBytes withInputs
   extended-short h k out a e = made-short h k out (λ p ls. encodedSet (extensionList p ls)) a e
 
   -- a set alone

@@ -8,9 +8,10 @@ use mathlib.Core.List.{List}
 use lib.ListN.{getD, drop}
 use borrow.Author.Tests.{le-leb, lt-leb}
 use Rattle.buffer.specs.Bytes.{numberAt}
-use Rattle.literal.specs.Order.{keyOf}
-use Rattle.litset.specs.Keys.{hasKey}
-use Rattle.clash.specs.Clash.{opposedIn, clashAt}
+use Rattle.literal.specs.declared.Literal.the-variants.{Signed}
+use Rattle.literal.specs.Literal.{opposite, signedAtom}
+use Rattle.litset.specs.Code.{keySet}
+use Rattle.clash.specs.Code.{opposedIn, clashAt}
 
 module _ (s : List ℕ) (n : ℕ) (t : List ℕ) where
   -- a mark has no opposite
@@ -19,7 +20,7 @@ module _ (s : List ℕ) (n : ℕ) (t : List ℕ) where
   opposed-mark h = rw (lt-leb (getD t 0 0) 1 h)
 
   -- the opposite of an atom has the other kind
-  pub opposed-signed : getD t 0 0 ≤ 1 → opposedIn s n t ≡ hasKey s n (keyOf (1 - getD t 0 0) (numberAt t 1) (numberAt t 3))
+  pub opposed-signed : getD t 0 0 ≤ 1 → opposedIn s n t ≡ keySet s n (Signed (opposite (signedAtom (getD t 0 0) (numberAt t 3))))
   unfolding opposedIn
   opposed-signed h = rw (le-leb (getD t 0 0) 1 h)
 

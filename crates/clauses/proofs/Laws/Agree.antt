@@ -1,22 +1,29 @@
 -- The clause of a rule is the same by two sets, and two ways to give positions, that agree on the rule's literals and on the
 -- defeat marks of its options.
--- In order: literals that have a property; unions; the options that are left; clauses. Assumes nothing.
+-- In order: the clause of what is left of a rule; literals that have a property; unions; the options that are left; clauses.
+-- Assumes nothing.
 use Prim.Native.Nat.{ℕ}
 use mathlib.Core.Path.{_≡_, refl, sym, _∙_, ap, ap₂, subst}
 use mathlib.Core.Bool.{Bool, true, false, cond}
 use mathlib.Core.List.{List, [], _∷_, map, List·Memᴰ, List·Memᴰ·head, List·Memᴰ·tail}
-use mathlib.Core.Option.{none, some}
+use mathlib.Core.Option.{Option, none, some}
 use lib.Bits.{bitOr}
 use Rattle.literal.specs.declared.Tag.{Tag}
 use Rattle.literal.specs.declared.SignedAtom.{SignedAtom}
 use Rattle.literal.specs.declared.Literal.{Literal}
 use Rattle.literal.specs.declared.Literal.the-variants.{Signed, Defeated}
-use Rattle.semantics.specs.Set.{LiteralSet, any}
-use Rattle.semantics.specs.Rule.{strict, defeasible}
+use Rattle.semantics.specs.Set.{LiteralSet, someOf, eachOf}
+use Rattle.semantics.specs.Rule.{strict, defeasible, Remainder}
 use Rattle.semantics.specs.Meaning.{undefeated, unlessEmpty, remainder}
 use Rattle.semantics.proofs.Laws.Tests.{any-agree, all-agree}
-use Rattle.clauses.specs.Position.{union}
-use Rattle.clauses.specs.Rule.{clauseOf}
+use Rattle.clauses.specs.Code.{union, noClause}
+use Rattle.clauses.specs.declared.Clause.{Clause}
+
+-- the clause of what a set u leaves of a rule, where f gives the literals' positions: none where nothing is left, and none
+-- where a positive literal is not in u, for then it holds in each part of u
+unfoldable pub clauseOf : LiteralSet → (Literal → ℕ) → Option Remainder → Clause
+clauseOf u f none = noClause
+clauseOf u f (some q) = cond (eachOf u (q .positive)) (record { count = 1; body = union f (q .positive); head = union f (q .head) }) noClause
 
 -- each literal of a list has P
 abbrev pub Each : (Literal → Type 0) → List Literal → Type 0
@@ -58,7 +65,7 @@ module _ (P : Literal → Type 0) (u v : LiteralSet) (f g : Literal → ℕ) (sa
   unfolding remainder clauseOf
   strict-same h b c eh eb ec =
       ap (λ (x : Bool). clauseOf u f (cond x none (some (record { head = h; positive = b })))) (any-agree {f = u} {g = v} c (λ l m. same-set l (ec l m)))
-      ∙ go (any v c)
+      ∙ go (someOf v c)
     where
       go : (x : Bool) → clauseOf u f (cond x none (some (record { head = h; positive = b }))) ≡ clauseOf v g (cond x none (some (record { head = h; positive = b })))
       go true = refl
@@ -69,7 +76,7 @@ module _ (P : Literal → Type 0) (u v : LiteralSet) (f g : Literal → ℕ) (sa
   unfolding remainder clauseOf unlessEmpty
   defeasible-same t mark h b c eh eb ec =
       ap₂ (λ (x : Bool) (ls : List Literal). clauseOf u f (cond x none (unlessEmpty ls b))) (any-agree {f = u} {g = v} c (λ l m. same-set l (ec l m))) (undefeated-same t mark h eh)
-      ∙ go (any v c) (undefeated t h v) (undefeated-each t h eh)
+      ∙ go (someOf v c) (undefeated t h v) (undefeated-each t h eh)
     where
       go : (x : Bool) (ls : List Literal) → Each P ls → clauseOf u f (cond x none (unlessEmpty ls b)) ≡ clauseOf v g (cond x none (unlessEmpty ls b))
       go true ls e = refl

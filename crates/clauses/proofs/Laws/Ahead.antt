@@ -16,14 +16,12 @@ use Rattle.semantics.specs.Rule.{Program}
 use Rattle.semantics.specs.Meaning.{remainder, quotient}
 use Rattle.semantics.specs.Verdict.{brokenFrom}
 use Rattle.record.specs.Layout.{encodedLiterals, encodedProgram}
-use Rattle.record.specs.Size.{recordSize}
+use Rattle.record.specs.Code.{recordSize}
 use Rattle.litset.specs.Layout.{encodedSet}
-use Rattle.emit.specs.Starts.{Stands}
-use Rattle.emit.proofs.Laws.Stands.{More, stands-end, stands-more, stands-start}
-use Rattle.narrow.specs.Picked.{bodiesOf, headsOf}
+use Rattle.emit.proofs.Laws.Stands.{Stands, More, stands-end, stands-more, stands-start}
+use Rattle.narrow.specs.Code.{bodiesOf, headsOf}
 use Rattle.clauses.specs.declared.Clause.{Clause}
-use Rattle.clauses.specs.Rule.{clauseAt}
-use Rattle.clauses.specs.Build.{isBroken}
+use Rattle.clauses.specs.Code.{clauseAt, isBroken}
 use Rattle.clauses.proofs.Laws.Literals.{clause-rule}
 use Rattle.clauses.proofs.Laws.Told.{Told, told, told-count}
 use Rattle.clauses.proofs.Laws.Step.{rule-holds, rule-broken, bodies-next, heads-next}
@@ -34,6 +32,7 @@ pub record Ahead (s : List ℕ) (p : Program) (ls : List Literal) (bodies heads 
   pub counted : ℕ
   pub bytes : Stands s at rules counted
   pub room : count + length rules ≤ length p
+  pub numbered : number + length rules ≡ length p + 1
   pub broken : brokenFrom 1 p (setOf ls) ≡ brokenFrom number rules (setOf ls)
   pub of-bodies : bodiesOf ls (quotient p (setOf ls)) ≡ take count bodies ++ bodiesOf ls (quotient rules (setOf ls))
   pub of-heads : headsOf ls (quotient p (setOf ls)) ≡ take count heads ++ headsOf ls (quotient rules (setOf ls))
@@ -41,7 +40,7 @@ pub record Ahead (s : List ℕ) (p : Program) (ls : List Literal) (bodies heads 
 -- at the start the whole program is left
 pub ahead-start : (s : List ℕ) (p : Program) (ls : List Literal) (bodies heads : List ℕ) → s ≡ encodedProgram p → Ahead s p ls bodies heads 0 1 0
 ahead-start s p ls bodies heads e =
-    record { rules = p; counted = length p; bytes = stands-start s p e; room = omega arith; broken = refl; of-bodies = refl; of-heads = refl }
+    record { rules = p; counted = length p; bytes = stands-start s p e; room = omega arith; numbered = omega arith; broken = refl; of-bodies = refl; of-heads = refl }
 
 -- no rule is left
 none-left : (ls : List Literal) (number : ℕ) → brokenFrom number [] (setOf ls) ≡ none
@@ -96,6 +95,7 @@ module _ (s k : List ℕ) (n : ℕ) (source : Bytes s) (bytes : Bytes k) (p : Pr
             counted = a .counted;
             bytes = next .next;
             room = omega (arith, told-count ls (remainder (next .the-rule) (setOf ls)) c tells, a .room, ap length (next .same));
+            numbered = omega (arith, a .numbered, ap length (next .same));
             broken = a .broken ∙ ap (λ (q : Program). brokenFrom number q (setOf ls)) (next .same) ∙ rule-holds ls (next .the-rule) (next .behind) number c tells b;
             of-bodies =
                 a .of-bodies ∙ ap (λ (q : Program). take count bodies ++ bodiesOf ls (quotient q (setOf ls))) (next .same)
@@ -105,10 +105,11 @@ module _ (s k : List ℕ) (n : ℕ) (source : Bytes s) (bytes : Bytes k) (p : Pr
                 ∙ heads-next ls (next .the-rule) (next .behind) number c tells heads count j;
           }
 
-      -- it has one clause at most, fits the slice, and there is room for a clause
-      pub ahead-room : (c .count ≤ 1) × (recordSize (drop at s) ≤ length (drop at s)) × (count < length p)
+      -- it has one clause at most, fits the slice, there is room for a clause, and its number is one of the program's
+      pub ahead-room : (c .count ≤ 1) × (recordSize (drop at s) ≤ length (drop at s)) × (count < length p) × (number ≤ length p)
       ahead-room = (
         told-count ls (remainder (next .the-rule) (setOf ls)) c tells,
         next .fits,
         omega (arith, a .room, ap length (next .same)),
+        omega (arith, a .numbered, ap length (next .same)),
       )

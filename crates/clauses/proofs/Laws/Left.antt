@@ -11,13 +11,12 @@ use Rattle.literal.specs.declared.Literal.{Literal}
 use Rattle.literal.specs.declared.Literal.the-variants.{Signed, Defeated}
 use Rattle.literal.specs.Order.{key}
 use Rattle.mask.proofs.Laws.Part.{or-assoc}
-use Rattle.litset.specs.Keys.{keySet}
-use Rattle.emit.specs.Options.{tagAt, optionAt}
-use Rattle.remains.specs.Left.{leftAt}
+use Rattle.litset.specs.Code.{keySet}
+use Rattle.emit.specs.Code.{tagAt, optionAt}
+use Rattle.remains.specs.Code.{leftAt}
 use Rattle.remains.proofs.Laws.Left.{left-defeated, left-kept, left-first, left-count, left-few}
 use Rattle.clauses.specs.declared.Left.{Left}
-use Rattle.clauses.specs.Position.{keyMask, union}
-use Rattle.clauses.specs.Rule.{literalMask, leftOf}
+use Rattle.clauses.specs.Code.{keyMask, union, literalMask, leftOf}
 use Rattle.clauses.proofs.Laws.Union.{union-append}
 
 module _ (t s : List ℕ) (n : ℕ) where

@@ -20,15 +20,14 @@ use Rattle.semantics.specs.Set.{setOf}
 use Rattle.semantics.specs.Rule.{Rule, strict, defeasible}
 use Rattle.semantics.specs.Meaning.{remainder}
 use Rattle.record.specs.Layout.{encodedLiterals}
-use Rattle.litset.specs.Keys.{keySet}
+use Rattle.litset.specs.Code.{keySet}
 use Rattle.litset.proofs.Laws.Keys.{key-here, keys-behind, fields-fit, same-key, has-key-literals}
-use Rattle.emit.specs.Starts.{Starts}
+use Rattle.emit.specs.Code.{Starts}
 use Rattle.emit.proofs.Laws.Fields.{strict-fields, defeasible-fields, literals-behind}
-use Rattle.narrow.specs.Picked.{maskOf}
-use Rattle.clauses.specs.Position.{keyMaskFrom, keyMask}
-use Rattle.clauses.specs.Rule.{literalMask, clauseOf, clauseAt}
+use Rattle.narrow.specs.Code.{maskOf}
+use Rattle.clauses.specs.Code.{keyMaskFrom, keyMask, literalMask, clauseAt}
+use Rattle.clauses.proofs.Laws.Agree.{clauseOf, Each, strict-same, defeasible-same}
 use Rattle.clauses.proofs.Laws.Starts.{clause-starts}
-use Rattle.clauses.proofs.Laws.Agree.{Each, strict-same, defeasible-same}
 
 -- a literal's tag and its atom or rule number fit two bytes each
 abbrev Fits : Literal → Type 0

@@ -10,15 +10,14 @@ use Rattle.buffer.specs.Bytes.{Bytes}
 use Rattle.literal.specs.declared.Literal.{Literal}
 use Rattle.semantics.specs.Rule.{Program}
 use Rattle.record.specs.Layout.{encodedProgram}
-use Rattle.record.specs.Size.{recordSize}
+use Rattle.record.specs.Code.{recordSize}
 use Rattle.litset.specs.Layout.{encodedSet}
-use Rattle.litset.specs.Keys.{Ascends}
+use Rattle.litset.specs.Code.{Ascends}
 use Rattle.litset.proofs.Laws.Reading.{parsed-set-sound}
 use Rattle.litset.proofs.Laws.Keys.{set-long, set-ascends}
 use Rattle.emit.proofs.Laws.Stands.{stands-open}
 use Rattle.clauses.specs.declared.Clause.{Clause}
-use Rattle.clauses.specs.Rule.{clauseAt}
-use Rattle.clauses.specs.Build.{Buildable, isBroken, Clauses}
+use Rattle.clauses.specs.Code.{clauseAt, Buildable, isBroken, Clauses}
 use Rattle.clauses.proofs.Laws.Ahead.{Ahead, ahead-start, ahead-end, ahead-broken, ahead-next, ahead-room}
 
 -- the pass, wherever it is, for each program and set that the slices hold
@@ -31,7 +30,7 @@ pass-start s k n bodies heads p ls e held size = ahead-start s p ls bodies heads
 
 module _ (s k : List ℕ) (n : ℕ) (source : Bytes s) (bytes : Bytes k) (bodies heads : List ℕ) (at number count : ℕ) (pass : Pass s k n bodies heads at number count) where
   -- the whole program is passed
-  pub built-whole : getD s at 0 ≡ 0x45 → Clauses s k n (record { broken = 0; count = count }) bodies heads
+  pub built-whole : getD s at 0 ≡ 0x45 → Clauses s k n (record { broken = record { 0 = 0 }; count = count }) bodies heads
   built-whole e =
       record {
         broken = λ p ls q held size i z.
@@ -42,7 +41,7 @@ module _ (s k : List ℕ) (n : ℕ) (source : Bytes s) (bytes : Bytes k) (bodies
 
   module _ (more : getD s at 0 ≡ 0x45 → ⊥) (c : Clause) (e : c ≡ clauseAt (drop at s) k n) where
     -- a broken rule
-    pub built-broken : isBroken c ≡ true → Clauses s k n (record { broken = number; count = 0 }) bodies heads
+    pub built-broken : isBroken c ≡ true → Clauses s k n (record { broken = record { 0 = number }; count = 0 }) bodies heads
     built-broken b =
         record {
           broken = λ p ls q held size i z.
@@ -77,7 +76,7 @@ module _ {s k : List ℕ} {n b h : ℕ} (w : Buildable s k n b h) where
 
     module _ (source : Bytes s) (more : getD s at 0 ≡ 0x45 → ⊥) where
       -- a rule's record, and room for a clause
-      room : (c : Clause) → c ≡ clauseAt (drop at s) k n → (c .count ≤ 1) × (recordSize (drop at s) ≤ length (drop at s)) × (count < length (w .program))
+      room : (c : Clause) → c ≡ clauseAt (drop at s) k n → (c .count ≤ 1) × (recordSize (drop at s) ≤ length (drop at s)) × (count < length (w .program)) × (number ≤ length (w .program))
       room c e =
           ahead-room s k n source (w .bytes) (w .program) (w .literals) (parsed-set-sound (w .form) (w .most) k (w .literals) (w .bytes) (w .held) .0) (w .count)
           bodies heads at number count (asked-ahead bodies heads at number count pass) more c e
@@ -87,6 +86,9 @@ module _ {s k : List ℕ} {n b h : ℕ} (w : Buildable s k n b h) where
 
       pub asked-room : (count < b) × (count < h)
       asked-room = let few = room (clauseAt (drop at s) k n) refl .2 in (omega (arith, w .room .0), omega (arith, w .room .1))
+
+      pub asked-number : number + 1 < 65536
+      asked-number = omega (arith, room (clauseAt (drop at s) k n) refl .3, w .numbered)
 
       pub asked-count : (c : Clause) → c ≡ clauseAt (drop at s) k n → c .count ≤ 1
       asked-count c e = room c e .0

@@ -10,10 +10,10 @@ use lib.Dec.{eqb}
 use lib.ListN.{drop}
 use lib.Pow.{pow-pos}
 use borrow.Author.Tests.{eq-eqb, ne-eqb}
-use Rattle.literal.specs.Order.{keyAt}
-use Rattle.litset.specs.Keys.{Ascends, hasKeyFrom, hasKey, Place}
+use Rattle.literal.specs.Code.{keyAt}
+use Rattle.litset.specs.Code.{Ascends, hasKeyFrom, hasKey, Place}
 use Rattle.litset.proofs.Laws.Search.{number-first, number-next}
-use Rattle.clauses.specs.Position.{keyMaskFrom, keyMask}
+use Rattle.clauses.specs.Code.{keyMaskFrom, keyMask}
 
 module _ (s : List ℕ) (k : ℕ) where
   -- the key of literal number j, where those before it have smaller keys

@@ -10,17 +10,17 @@ use lib.ListN.{length, getD, drop}
 use lib.Seq.{drop-drop, drop-at}
 use Rattle.literal.specs.declared.Literal.{Literal}
 use Rattle.literal.specs.Literal.{encoded}
-use Rattle.literal.specs.Order.{key, keyAt}
+use Rattle.literal.specs.Order.{key}
+use Rattle.literal.specs.Code.{keyAt}
 use Rattle.literal.proofs.Laws.Literal.{length-encoded}
 use Rattle.literal.proofs.Laws.Order.{keyAt-encoded}
-use Rattle.semantics.specs.Set.{any, all}
+use Rattle.semantics.specs.Set.{someOf, eachOf}
 use Rattle.semantics.proofs.Laws.Tests.{all-map}
 use Rattle.record.specs.Layout.{encodedLiterals}
-use Rattle.litset.specs.Keys.{hasKey, keySet}
+use Rattle.litset.specs.Code.{hasKey, keySet}
 use Rattle.emit.proofs.Laws.Fields.{Fields, literals-first, literals-next}
 use Rattle.remains.proofs.Laws.Rule.{nafs-met}
-use Rattle.clauses.specs.Position.{keyMask, keysAt, union}
-use Rattle.clauses.specs.Rule.{literalMask, noClause, clauseWith, clauseAt}
+use Rattle.clauses.specs.Code.{keyMask, keysAt, union, literalMask, noClause, clauseWith, clauseAt}
 
 -- the keys of literals that stand in a slice
 keys-spelled : (t : List ℕ) (ls : List Literal) (at : ℕ) (rest : List ℕ) → drop at t ≡ encodedLiterals ls ++ rest → keysAt t at (length ls) ≡ map key ls
@@ -46,7 +46,7 @@ module _ (t s : List ℕ) (n : ℕ) (letter tag : ℕ) (h b c : List Literal) (r
   fields-heads : keysAt t 7 (getD t 4 0) ≡ map key h
   fields-heads = rw (f .heads) (keys-spelled t h 7 (encodedLiterals (b ++ c) ++ rest) (literals-first (drop 7 t) rest h (b ++ c) (f .literals)))
 
-  pub clause-fields : clauseAt t s n ≡ cond (any (keySet s n) c) noClause (cond (all (keySet s n) b) (clauseWith t (union (literalMask s n) b) s n) noClause)
+  pub clause-fields : clauseAt t s n ≡ cond (someOf (keySet s n) c) noClause (cond (eachOf (keySet s n) b) (clauseWith t (union (literalMask s n) b) s n) noClause)
   unfolding clauseAt
   clause-fields = rw (nafs-met t s n letter tag h b c rest f, fields-positives, all-map (hasKey s n) key b, union-map (keyMask s n) b)
 

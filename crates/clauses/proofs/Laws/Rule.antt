@@ -6,13 +6,12 @@ use mathlib.Core.Bool.{Bool, true, false}
 use mathlib.Core.List.{List}
 use lib.ListN.{length, getD}
 use borrow.Author.Tests.{eq-eqb, ne-eqb}
-use Rattle.semantics.specs.Set.{all}
-use Rattle.litset.specs.Keys.{hasKey, anyKey}
+use Rattle.semantics.specs.Set.{eachOf}
+use Rattle.litset.specs.Code.{hasKey, anyKey}
 use Rattle.clauses.specs.declared.Positions.{Positions}
 use Rattle.clauses.specs.declared.Left.{Left}
-use Rattle.clauses.specs.Position.{keyMask, keysAt, union, positionsOf}
-use Rattle.remains.specs.Left.{leftAt}
-use Rattle.clauses.specs.Rule.{leftOf, noClause, clauseWith, clauseAt}
+use Rattle.clauses.specs.Code.{keyMask, keysAt, union, positionsOf, leftOf, noClause, clauseWith, clauseAt}
+use Rattle.remains.specs.Code.{leftAt}
 use Rattle.clauses.proofs.Laws.Union.{positions-missing, positions-whole}
 
 module _ (t : List ℕ) (body : ℕ) (s : List ℕ) (n : ℕ) where
@@ -42,11 +41,11 @@ module _ (t s : List ℕ) (n : ℕ) where
 
   module _ (e : anyKey s n (getD t 6 0) t (7 + 5 * (getD t 4 0 + getD t 5 0)) ≡ false) (body : Positions) (p : body ≡ positionsOf s n (keysAt t (7 + 5 * getD t 4 0) (getD t 5 0))) where
     -- by the positive literals' keys
-    whole-all : (b : Bool) → all (hasKey s n) (keysAt t (7 + 5 * getD t 4 0) (getD t 5 0)) ≡ b → body .whole ≡ b
+    whole-all : (b : Bool) → eachOf (hasKey s n) (keysAt t (7 + 5 * getD t 4 0) (getD t 5 0)) ≡ b → body .whole ≡ b
     whole-all true q = ap (λ (x : Positions). x .whole) (p ∙ positions-whole s n _ q)
     whole-all false q = ap (λ (x : Positions). x .whole) (p ∙ positions-missing s n _ q)
 
-    all-whole : (b : Bool) → body .whole ≡ b → all (hasKey s n) (keysAt t (7 + 5 * getD t 4 0) (getD t 5 0)) ≡ b
+    all-whole : (b : Bool) → body .whole ≡ b → eachOf (hasKey s n) (keysAt t (7 + 5 * getD t 4 0) (getD t 5 0)) ≡ b
     all-whole b q = sym (whole-all _ refl) ∙ q
 
     -- a positive literal is not

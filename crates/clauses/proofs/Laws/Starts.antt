@@ -13,16 +13,16 @@ use Rattle.literal.specs.declared.Tag.{Tag}
 use Rattle.literal.specs.declared.SignedAtom.{SignedAtom}
 use Rattle.literal.specs.declared.Literal.{Literal}
 use Rattle.literal.specs.declared.Literal.the-variants.{Signed}
-use Rattle.semantics.specs.Set.{LiteralSet, any, all}
+use Rattle.semantics.specs.Set.{LiteralSet, someOf, eachOf}
 use Rattle.semantics.specs.Rule.{Rule, strict, defeasible}
 use Rattle.semantics.specs.Meaning.{undefeated, unlessEmpty, remainder}
-use Rattle.litset.specs.Keys.{keySet}
-use Rattle.emit.specs.Starts.{Starts}
+use Rattle.litset.specs.Code.{keySet}
+use Rattle.emit.specs.Code.{Starts}
 use Rattle.emit.proofs.Laws.Fields.{strict-fields, defeasible-fields}
 use Rattle.remains.proofs.Laws.Rule.{left-undefeated}
 use Rattle.clauses.specs.declared.Clause.{Clause}
-use Rattle.clauses.specs.Position.{union}
-use Rattle.clauses.specs.Rule.{literalMask, noClause, clauseOf, clauseWith, clauseAt}
+use Rattle.clauses.specs.Code.{union, literalMask, noClause, clauseWith, clauseAt}
+use Rattle.clauses.proofs.Laws.Agree.{clauseOf}
 use Rattle.clauses.proofs.Laws.Record.{clause-fields, with-fields}
 
 module _ (t s : List ℕ) (n : ℕ) where
@@ -31,10 +31,10 @@ module _ (t s : List ℕ) (n : ℕ) where
   strict-starts h b c w =
       let f = strict-fields t h b c w in
       clause-fields t s n 0x53 0 h b c (w .rest) f
-      ∙ ap (λ (x : Clause). cond (any (keySet s n) c) noClause (cond (all (keySet s n) b) x noClause)) (with-fields t s n 0x53 0 h b c (w .rest) f (union (literalMask s n) b) refl)
-      ∙ go (any (keySet s n) c)
+      ∙ ap (λ (x : Clause). cond (someOf (keySet s n) c) noClause (cond (eachOf (keySet s n) b) x noClause)) (with-fields t s n 0x53 0 h b c (w .rest) f (union (literalMask s n) b) refl)
+      ∙ go (someOf (keySet s n) c)
     where
-      go : (x : Bool) → cond x noClause (cond (all (keySet s n) b) (record { count = 1; body = union (literalMask s n) b; head = union (literalMask s n) h }) noClause)
+      go : (x : Bool) → cond x noClause (cond (eachOf (keySet s n) b) (record { count = 1; body = union (literalMask s n) b; head = union (literalMask s n) h }) noClause)
           ≡ clauseOf (keySet s n) (literalMask s n) (cond x none (some (record { head = h; positive = b })))
       go true = refl
       go false = refl
@@ -46,9 +46,9 @@ module _ (t s : List ℕ) (n : ℕ) where
 
 -- the clause of options that are left
 option-clause : (u : LiteralSet) (f : Literal → ℕ) (b ls : List Literal)
-    → cond (all u b) (cond (eqb (length ls) 0) noClause (record { count = 1; body = union f b; head = union f ls })) noClause ≡ clauseOf u f (unlessEmpty ls b)
+    → cond (eachOf u b) (cond (eqb (length ls) 0) noClause (record { count = 1; body = union f b; head = union f ls })) noClause ≡ clauseOf u f (unlessEmpty ls b)
 unfolding clauseOf unlessEmpty
-option-clause u f b [] = go (all u b)
+option-clause u f b [] = go (eachOf u b)
   where
     go : (x : Bool) → cond x noClause noClause ≡ noClause
     go true = refl
@@ -61,9 +61,9 @@ module _ (t s : List ℕ) (n : ℕ) where
   unfolding remainder clauseOf
   defeasible-starts g h b c w =
       clause-fields t s n 0x44 (g .0) (map Signed h) b c (w .rest) (defeasible-fields t g h b c w)
-      ∙ ap (λ (x : Clause). cond (any (keySet s n) c) noClause (cond (all (keySet s n) b) x noClause)) (with-options t s n g h b c w (union (literalMask s n) b))
-      ∙ ap (cond (any (keySet s n) c) noClause) (option-clause (keySet s n) (literalMask s n) b (undefeated g h (keySet s n)))
-      ∙ go (any (keySet s n) c)
+      ∙ ap (λ (x : Clause). cond (someOf (keySet s n) c) noClause (cond (eachOf (keySet s n) b) x noClause)) (with-options t s n g h b c w (union (literalMask s n) b))
+      ∙ ap (cond (someOf (keySet s n) c) noClause) (option-clause (keySet s n) (literalMask s n) b (undefeated g h (keySet s n)))
+      ∙ go (someOf (keySet s n) c)
     where
       go : (x : Bool) → cond x noClause (clauseOf (keySet s n) (literalMask s n) (unlessEmpty (undefeated g h (keySet s n)) b))
           ≡ clauseOf (keySet s n) (literalMask s n) (cond x none (unlessEmpty (undefeated g h (keySet s n)) b))

@@ -16,9 +16,9 @@ use Rattle.semantics.specs.Set.{setOf}
 use Rattle.semantics.specs.Rule.{Rule, Program}
 use Rattle.semantics.specs.Meaning.{remainder, withRemainder, quotient}
 use Rattle.semantics.specs.Verdict.{brokenFrom}
-use Rattle.narrow.specs.Picked.{bodiesOf, headsOf}
+use Rattle.narrow.specs.Code.{bodiesOf, headsOf}
 use Rattle.clauses.specs.declared.Clause.{Clause}
-use Rattle.clauses.specs.Build.{isBroken}
+use Rattle.clauses.specs.Code.{isBroken}
 use Rattle.clauses.proofs.Laws.Told.{Told, without, with-one, told-holds, told-broken}
 
 -- a store behind the first i, counted or not

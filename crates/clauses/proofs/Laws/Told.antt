@@ -11,17 +11,16 @@ use lib.Bits.{bitOr, or-zero-l}
 use lib.Dec.{eqb}
 use borrow.Author.Tests.{eq-eqb, ne-eqb}
 use Rattle.literal.specs.declared.Literal.{Literal}
-use Rattle.semantics.specs.Set.{any, all, setOf}
+use Rattle.semantics.specs.Set.{someOf, eachOf, setOf}
 use Rattle.semantics.specs.Rule.{Remainder}
 use Rattle.semantics.specs.Meaning.{withRemainder, holds, satisfied}
 use Rattle.semantics.proofs.Laws.Tests.{along, is-false}
 use Rattle.mask.proofs.Laws.Part.{or-none}
-use Rattle.narrow.specs.Picked.{maskOf, masksOf, bodiesOf, headsOf}
+use Rattle.narrow.specs.Code.{maskOf, masksOf, bodiesOf, headsOf}
 use Rattle.narrow.proofs.Laws.Build.{mask-some, mask-none, bodies-kept, heads-kept, bodies-left-out, heads-left-out}
 use Rattle.clauses.specs.declared.Clause.{Clause}
-use Rattle.clauses.specs.Position.{union}
-use Rattle.clauses.specs.Rule.{noClause, clauseOf}
-use Rattle.clauses.specs.Build.{isBroken}
+use Rattle.clauses.specs.Code.{union, noClause, isBroken}
+use Rattle.clauses.proofs.Laws.Agree.{clauseOf}
 
 module _ (ls : List Literal) where
   masks-union : (qs : List Literal) → union (maskOf ls) qs ≡ masksOf ls qs
@@ -30,27 +29,27 @@ module _ (ls : List Literal) where
   masks-union (q ∷ qs) = ap (bitOr (maskOf ls q)) (masks-union qs)
 
   -- a union is empty exactly if no literal is in the list
-  masks-empty : (qs : List Literal) → union (maskOf ls) qs ≡ 0 → any (setOf ls) qs ≡ false
+  masks-empty : (qs : List Literal) → union (maskOf ls) qs ≡ 0 → someOf (setOf ls) qs ≡ false
   unfolding union
   masks-empty [] e = refl
   masks-empty (q ∷ qs) e =
       let both = or-none (maskOf ls q) (union (maskOf ls) qs) e in
       ap₂ (λ (x y : Bool). x || y) (is-false (setOf ls q) (λ t. omega (arith, mask-some ls q t, both .0))) (masks-empty qs (both .1))
 
-  none-masks : (qs : List Literal) → any (setOf ls) qs ≡ false → union (maskOf ls) qs ≡ 0
+  none-masks : (qs : List Literal) → someOf (setOf ls) qs ≡ false → union (maskOf ls) qs ≡ 0
   unfolding union
   none-masks [] e = refl
   none-masks (q ∷ qs) e = go (setOf ls q) refl e (none-masks qs)
     where
-      go : (b : Bool) → setOf ls q ≡ b → (b || any (setOf ls) qs) ≡ false → (any (setOf ls) qs ≡ false → union (maskOf ls) qs ≡ 0)
+      go : (b : Bool) → setOf ls q ≡ b → (b || someOf (setOf ls) qs) ≡ false → (someOf (setOf ls) qs ≡ false → union (maskOf ls) qs ≡ 0)
           → bitOr (maskOf ls q) (union (maskOf ls) qs) ≡ 0
       go true k z ih = absurd (let o : _≡_ {A = ℕ} 0 1 = cc in omega arith)
       go false k z ih = ap₂ bitOr (mask-none ls q (along k)) (ih z) ∙ or-zero-l 0
 
-  any-masks : (qs : List Literal) → any (setOf ls) qs ≡ not (eqb (union (maskOf ls) qs) 0)
-  any-masks qs = go (any (setOf ls) qs) refl
+  any-masks : (qs : List Literal) → someOf (setOf ls) qs ≡ not (eqb (union (maskOf ls) qs) 0)
+  any-masks qs = go (someOf (setOf ls) qs) refl
     where
-      go : (b : Bool) → any (setOf ls) qs ≡ b → b ≡ not (eqb (union (maskOf ls) qs) 0)
+      go : (b : Bool) → someOf (setOf ls) qs ≡ b → b ≡ not (eqb (union (maskOf ls) qs) 0)
       go true e = ap not (sym (ne-eqb (union (maskOf ls) qs) 0 (λ z. let o : _≡_ {A = ℕ} 0 1 = cc (masks-empty qs z) in omega arith)))
       go false e = ap not (sym (eq-eqb (union (maskOf ls) qs) 0 (none-masks qs e)))
 
@@ -76,14 +75,14 @@ module _ (ls : List Literal) where
   unfolding withRemainder satisfied
   told-none c e = without (record { none = ap (λ (x : Clause). x .count) e; holds-so = refl; no-body = λ qs. refl; no-head = λ qs. refl })
 
-  told-some : (q : Remainder) (c : Clause) (b : Bool) → all (setOf ls) (q .positive) ≡ b
+  told-some : (q : Remainder) (c : Clause) (b : Bool) → eachOf (setOf ls) (q .positive) ≡ b
       → c ≡ cond b (record { count = 1; body = union (maskOf ls) (q .positive); head = union (maskOf ls) (q .head) }) noClause → Told (some q) c
   unfolding withRemainder satisfied holds
   told-some q c true k e =
       with-one
       (record {
         one = ap (λ (x : Clause). x .count) e;
-        holds-by = ap (λ (x : Bool). not x || any (setOf ls) (q .head)) k ∙ any-masks (q .head) ∙ ap (λ (x : Clause). not (eqb (x .head) 0)) (sym e);
+        holds-by = ap (λ (x : Bool). not x || someOf (setOf ls) (q .head)) k ∙ any-masks (q .head) ∙ ap (λ (x : Clause). not (eqb (x .head) 0)) (sym e);
         a-body = λ qs.
             bodies-kept ls q qs (along (sym k) tt)
             ∙ ap (λ (m : ℕ). m ∷ bodiesOf ls qs) (sym (masks-union (q .positive)) ∙ ap (λ (x : Clause). x .body) (sym e));
@@ -95,7 +94,7 @@ module _ (ls : List Literal) where
       without
       (record {
         none = ap (λ (x : Clause). x .count) e;
-        holds-so = ap (λ (x : Bool). not x || any (setOf ls) (q .head)) k;
+        holds-so = ap (λ (x : Bool). not x || someOf (setOf ls) (q .head)) k;
         no-body = λ qs. bodies-left-out ls q qs (along k);
         no-head = λ qs. heads-left-out ls q qs (along k);
       })
@@ -104,7 +103,7 @@ module _ (ls : List Literal) where
   pub told : (o : Option Remainder) (c : Clause) → c ≡ clauseOf (setOf ls) (maskOf ls) o → Told o c
   unfolding clauseOf
   told none c e = told-none c e
-  told (some q) c e = told-some q c (all (setOf ls) (q .positive)) refl e
+  told (some q) c e = told-some q c (eachOf (setOf ls) (q .positive)) refl e
 
   module _ (o : Option Remainder) (c : Clause) where
     -- no rule has two clauses

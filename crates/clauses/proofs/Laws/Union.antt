@@ -8,11 +8,11 @@ use mathlib.Core.Bool.{Bool, true, false, _&&_}
 use mathlib.Core.List.{List, [], _∷_, _++_}
 use lib.Bits.{bitOr, or-zero-l, or-zero-r}
 use lib.ListN.{drop}
-use Rattle.literal.specs.Order.{keyAt}
-use Rattle.semantics.specs.Set.{all}
+use Rattle.literal.specs.Code.{keyAt}
+use Rattle.semantics.specs.Set.{eachOf}
 use Rattle.mask.proofs.Laws.Part.{or-assoc}
-use Rattle.litset.specs.Keys.{hasKey}
-use Rattle.clauses.specs.Position.{keyMask, keysAt, union, positionsOf}
+use Rattle.litset.specs.Code.{hasKey}
+use Rattle.clauses.specs.Code.{keyMask, keysAt, union, positionsOf}
 
 module _ (t : List ℕ) where
   -- the first key, and those that are left
@@ -62,20 +62,20 @@ module _ (s : List ℕ) (n : ℕ) (t : List ℕ) where
   positions-end at m so h = ap (λ (ks : List ℕ). bitOr so (union (keyMask s n) ks)) (keys-none t at m h) ∙ union-end (keyMask s n) so
 
   -- whether the set has each
-  pub all-missing : (at m : ℕ) → 0 < m → hasKey s n (keyAt (drop at t)) ≡ false → all (hasKey s n) (keysAt t at m) ≡ false
-  all-missing at m h e = ap (all (hasKey s n)) (keys-first t at m h) ∙ ap (λ (b : Bool). b && all (hasKey s n) (keysAt t (at + 5) (m - 1))) e
+  pub all-missing : (at m : ℕ) → 0 < m → hasKey s n (keyAt (drop at t)) ≡ false → eachOf (hasKey s n) (keysAt t at m) ≡ false
+  all-missing at m h e = ap (eachOf (hasKey s n)) (keys-first t at m h) ∙ ap (λ (b : Bool). b && eachOf (hasKey s n) (keysAt t (at + 5) (m - 1))) e
 
-  pub all-next : (at m : ℕ) → 0 < m → hasKey s n (keyAt (drop at t)) ≡ true → all (hasKey s n) (keysAt t at m) ≡ all (hasKey s n) (keysAt t (at + 5) (m - 1))
-  all-next at m h e = ap (all (hasKey s n)) (keys-first t at m h) ∙ ap (λ (b : Bool). b && all (hasKey s n) (keysAt t (at + 5) (m - 1))) e
+  pub all-next : (at m : ℕ) → 0 < m → hasKey s n (keyAt (drop at t)) ≡ true → eachOf (hasKey s n) (keysAt t at m) ≡ eachOf (hasKey s n) (keysAt t (at + 5) (m - 1))
+  all-next at m h e = ap (eachOf (hasKey s n)) (keys-first t at m h) ∙ ap (λ (b : Bool). b && eachOf (hasKey s n) (keysAt t (at + 5) (m - 1))) e
 
-  pub all-end : (at m : ℕ) → m ≤ 0 → all (hasKey s n) (keysAt t at m) ≡ true
-  all-end at m h = ap (all (hasKey s n)) (keys-none t at m h)
+  pub all-end : (at m : ℕ) → m ≤ 0 → eachOf (hasKey s n) (keysAt t at m) ≡ true
+  all-end at m h = ap (eachOf (hasKey s n)) (keys-none t at m h)
 
 module _ (s : List ℕ) (n : ℕ) (ks : List ℕ) where
-  pub positions-missing : all (hasKey s n) ks ≡ false → positionsOf s n ks ≡ record { whole = false; mask = 0 }
+  pub positions-missing : eachOf (hasKey s n) ks ≡ false → positionsOf s n ks ≡ record { whole = false; mask = 0 }
   unfolding positionsOf
   positions-missing e = rw e
 
-  pub positions-whole : all (hasKey s n) ks ≡ true → positionsOf s n ks ≡ record { whole = true; mask = union (keyMask s n) ks }
+  pub positions-whole : eachOf (hasKey s n) ks ≡ true → positionsOf s n ks ≡ record { whole = true; mask = union (keyMask s n) ks }
   unfolding positionsOf
   positions-whole e = rw e

@@ -20,10 +20,9 @@ use Rattle.semantics.specs.Translation.{recordLength}
 use Rattle.semantics.proofs.Laws.Tests.{second}
 use Rattle.semantics.proofs.Laws.Form.{keeps-counts}
 use Rattle.record.specs.Layout.{encodedLiterals, ruleRecord, encodedRule}
-use Rattle.record.specs.Size.{recordSize}
+use Rattle.record.specs.Code.{recordSize}
 use Rattle.record.proofs.Laws.Layout.{encoded-literals-append, length-encoded-literals}
-use Rattle.emit.specs.Header.{header}
-use Rattle.emit.specs.Starts.{Starts}
+use Rattle.emit.specs.Code.{header, Starts}
 
 -- the fields of a rule's record that starts s
 pub record Fields (s : List ℕ) (letter tag : ℕ) (h b c : List Literal) (rest : List ℕ) : Type 0 where

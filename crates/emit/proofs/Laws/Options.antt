@@ -20,8 +20,7 @@ use Rattle.literal.proofs.Laws.Literal.{length-encoded}
 use Rattle.semantics.specs.Rule.{defeasible}
 use Rattle.record.specs.Layout.{encodedLiterals}
 use Rattle.record.proofs.Laws.Layout.{encoded-literals-append}
-use Rattle.emit.specs.Starts.{Starts}
-use Rattle.emit.specs.Options.{tagAt, optionAt, optionsAt}
+use Rattle.emit.specs.Code.{Starts, tagAt, optionAt, optionsAt}
 use Rattle.emit.proofs.Laws.Fields.{defeasible-fields, literals-behind}
 
 module _ (s : List ℕ) where

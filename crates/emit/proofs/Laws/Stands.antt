@@ -1,5 +1,5 @@
 -- Laws of walking through a program's records: at each place a rule's record, or the end.
--- In order: the first letter; a rule's record and the rules behind it; where the walk is; its start.
+-- In order: the rules that are left of a program; the first letter; a rule's record and the rules behind it; where the walk is; its start.
 -- Assumes nothing.
 use Prim.Native.Nat.{ℕ, _+_, _≤_}
 use native.Mathlib.Omega.{arith}
@@ -11,10 +11,14 @@ use lib.Seq.{drop-drop, drop-at, getD-drop}
 use Rattle.semantics.specs.Rule.{Rule, strict, defeasible, Program}
 use Rattle.semantics.specs.Translation.{recordLength}
 use Rattle.record.specs.Layout.{encodedRule, encodedRules, encodedEnd, encodedProgram}
-use Rattle.record.specs.Size.{recordSize}
+use Rattle.record.specs.Code.{recordSize}
 use Rattle.record.proofs.Laws.Layout.{length-encoded-rule}
-use Rattle.emit.specs.Starts.{Starts, Stands}
+use Rattle.emit.specs.Code.{Starts}
 use Rattle.emit.proofs.Laws.Fields.{strict-fields, defeasible-fields, record-size}
+
+-- from `at` on the rules p stand in s, and an end record that counts n
+abbrev pub Stands : List ℕ → ℕ → Program → ℕ → Type 0
+Stands s at p n = drop at s ≡ encodedRules p ++ encodedEnd n
 
 -- a rule's record starts with no E
 no-end : (s : List ℕ) (r : Rule) → Starts s r → getD s 0 0 ≡ 0x45 → ⊥

@@ -14,7 +14,7 @@ use Rattle.buffer.proofs.Laws.Next.{write-behind}
 use Rattle.record.specs.declared.Refusal.{Refusal}
 use Rattle.record.specs.Refusal.{refusalNumber, encodedRefusal}
 use Rattle.record.specs.Layout.{colon, encodedEnd}
-use Rattle.emit.specs.Header.{header}
+use Rattle.emit.specs.Code.{header}
 
 -- a header has seven bytes
 pub length-header : (h b c : ℕ) → length (header h b c) ≡ 7

@@ -17,12 +17,10 @@ use Rattle.semantics.specs.Rule.{Rule, strict, defeasible}
 use Rattle.semantics.specs.Translation.{ruleDefeated, choice, allDefeated, options, translatedRule, recordLength}
 use Rattle.record.specs.Layout.{encodedLiterals, encodedRule, encodedRules}
 use Rattle.record.proofs.Laws.Layout.{encoded-literals-append, length-encoded-rule}
-use Rattle.emit.specs.Header.{header}
-use Rattle.emit.specs.Starts.{Starts}
-use Rattle.emit.specs.Options.{tagAt, optionsAt}
+use Rattle.emit.specs.Code.{header, Starts, tagAt, optionsAt}
 use Rattle.emit.proofs.Laws.Fields.{strict-fields, defeasible-fields, strict-pieces}
 use Rattle.emit.proofs.Laws.Options.{counted, rule-options, rule-tag, rule-body}
-use Rattle.option_rules.specs.Marks.{markOf}
+use Rattle.option_rules.specs.Code.{markOf}
 use Rattle.option_rules.proofs.Laws.Marks.{marks}
 
 -- one literal's bytes

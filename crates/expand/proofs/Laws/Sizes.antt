@@ -11,11 +11,11 @@ use Rattle.semantics.specs.Rule.{Rule, strict, defeasible}
 use Rattle.semantics.specs.Translation.{translatedRule, recordLength, translatedLength, translatedCount}
 use Rattle.semantics.proofs.Laws.Length.{rule-length}
 use Rattle.record.specs.Layout.{encodedRules}
-use Rattle.record.specs.Size.{recordSize}
+use Rattle.record.specs.Code.{recordSize}
 use Rattle.record.proofs.Laws.Layout.{length-encoded-rules}
-use Rattle.emit.specs.Starts.{Starts}
+use Rattle.emit.specs.Code.{Starts}
 use Rattle.emit.proofs.Laws.Fields.{strict-fields, defeasible-fields}
-use Rattle.expand.specs.Writing.{lengthAt, countAt}
+use Rattle.expand.specs.Code.{lengthAt, countAt}
 
 -- a rule becomes as many bytes as the sum says
 pub length-translated : (n : ℕ) (r : Rule) → length (encodedRules (translatedRule n r)) ≡ translatedLength r

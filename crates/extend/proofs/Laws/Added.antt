@@ -4,7 +4,7 @@ use mathlib.Core.Path.{_≡_, refl}
 use mathlib.Core.List.{List, _++_}
 use lib.Dec.{T}
 use Rattle.literal.specs.declared.Literal.{Literal}
-use Rattle.semantics.specs.Set.{all, setOf}
+use Rattle.semantics.specs.Set.{eachOf, setOf}
 use Rattle.semantics.specs.Rule.{Program}
 use Rattle.marks.specs.Marks.{marksFrom}
 use Rattle.marks.proofs.Laws.Each.{each-all, isMark, marks-are}
@@ -12,7 +12,7 @@ use Rattle.extend.specs.Extend.{sorted, extensionList}
 use Rattle.extend.proofs.Laws.Sorted.{each-sorted}
 
 -- the list, and marks behind it
-pub extension-marks : (p : Program) (ls : List Literal) → (ms : List Literal) × (extensionList p ls ≡ ls ++ ms) × T (all isMark ms)
+pub extension-marks : (p : Program) (ls : List Literal) → (ms : List Literal) × (extensionList p ls ≡ ls ++ ms) × T (eachOf isMark ms)
 unfolding extensionList
 extension-marks p ls =
     let ms = marksFrom 1 p (setOf ls) in

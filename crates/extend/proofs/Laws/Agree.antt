@@ -13,14 +13,14 @@ use Rattle.literal.specs.declared.SignedAtom.{SignedAtom}
 use Rattle.literal.specs.declared.Literal.{Literal}
 use Rattle.literal.specs.declared.Literal.the-variants.{Signed, Defeated, Derived}
 use Rattle.literal.specs.Literal.{atomNumber, tagField, atomField, takes}
-use Rattle.semantics.specs.Set.{LiteralSet, all}
+use Rattle.semantics.specs.Set.{LiteralSet, eachOf}
 use Rattle.semantics.specs.Rule.{Rule, strict, defeasible, Program}
 use Rattle.semantics.specs.Translation.{ruleDefeated}
 use Rattle.semantics.specs.Extension.{defeatedRule}
 use Rattle.semantics.specs.Form.{keepsRule}
 use Rattle.semantics.proofs.Laws.Tests.{first, second}
 use Rattle.marks.specs.Marks.{derivedMarks, ruleMarks, marksFrom}
-use Rattle.extend.specs.Extending.{Extendable}
+use Rattle.extend.specs.Code.{Extendable}
 use Rattle.extend.proofs.Laws.Narrow.{narrow-option, narrow-tag, options-taken}
 
 -- two sets hold the same literals of those whose fields fit two bytes
@@ -37,20 +37,20 @@ unfolding tagField atomField
 agree-defeated s u e t a g h = e (Defeated t a) g h
 
 module _ (F : Limits) (ok : Extendable F) (s u : LiteralSet) (e : AgreeNarrow s u) where
-  derived-agree : (t : Tag) (h : List SignedAtom) → t .0 < 65536 → T (all (takes F) (map Signed h)) → derivedMarks t h s ≡ derivedMarks t h u
+  derived-agree : (t : Tag) (h : List SignedAtom) → t .0 < 65536 → T (eachOf (takes F) (map Signed h)) → derivedMarks t h s ≡ derivedMarks t h u
   unfolding derivedMarks
   derived-agree t [] g k = refl
   derived-agree t (a ∷ h) g k =
-      let n = narrow-option F ok a (first (takes F (Signed a)) (all (takes F) (map Signed h)) k) in
-      let ih = derived-agree t h g (second (takes F (Signed a)) (all (takes F) (map Signed h)) k) in
+      let n = narrow-option F ok a (first (takes F (Signed a)) (eachOf (takes F) (map Signed h)) k) in
+      let ih = derived-agree t h g (second (takes F (Signed a)) (eachOf (takes F) (map Signed h)) k) in
       ap₂ (λ (x y : Bool). cond (x && not y) (Derived t a ∷ derivedMarks t h s) (derivedMarks t h s)) (agree-signed s u e a n) (agree-defeated s u e t a g n)
       ∙ ap (λ (ls : List Literal). cond (u (Signed a) && not (u (Defeated t a))) (Derived t a ∷ ls) ls) ih
 
-  defeated-agree : (t : Tag) (h : List SignedAtom) → t .0 < 65536 → T (all (takes F) (map Signed h)) → all (λ a. s (Defeated t a)) h ≡ all (λ a. u (Defeated t a)) h
+  defeated-agree : (t : Tag) (h : List SignedAtom) → t .0 < 65536 → T (eachOf (takes F) (map Signed h)) → eachOf (λ a. s (Defeated t a)) h ≡ eachOf (λ a. u (Defeated t a)) h
   defeated-agree t [] g k = refl
   defeated-agree t (a ∷ h) g k =
-      let n = narrow-option F ok a (first (takes F (Signed a)) (all (takes F) (map Signed h)) k) in
-      ap₂ _&&_ (agree-defeated s u e t a g n) (defeated-agree t h g (second (takes F (Signed a)) (all (takes F) (map Signed h)) k))
+      let n = narrow-option F ok a (first (takes F (Signed a)) (eachOf (takes F) (map Signed h)) k) in
+      ap₂ _&&_ (agree-defeated s u e t a g n) (defeated-agree t h g (second (takes F (Signed a)) (eachOf (takes F) (map Signed h)) k))
 
   rule-agree : (n : ℕ) (r : Rule) → T (keepsRule F r) → ruleMarks n r s ≡ ruleMarks n r u
   unfolding ruleMarks defeatedRule
@@ -61,7 +61,7 @@ module _ (F : Limits) (ok : Extendable F) (s u : LiteralSet) (e : AgreeNarrow s 
       ap₂ (λ (ls : List Literal) (d : Bool). ls ++ cond d (ruleDefeated n ∷ []) []) (derived-agree t h g o) (defeated-agree t h g o)
 
   -- a program adds the same marks
-  pub marks-agree : (n : ℕ) (p : Program) → T (all (keepsRule F) p) → marksFrom n p s ≡ marksFrom n p u
+  pub marks-agree : (n : ℕ) (p : Program) → T (eachOf (keepsRule F) p) → marksFrom n p s ≡ marksFrom n p u
   unfolding marksFrom
   marks-agree n [] k = refl
-  marks-agree n (r ∷ p) k = ap₂ _++_ (rule-agree n r (first (keepsRule F r) (all (keepsRule F) p) k)) (marks-agree (n + 1) p (second (keepsRule F r) (all (keepsRule F) p) k))
+  marks-agree n (r ∷ p) k = ap₂ _++_ (rule-agree n r (first (keepsRule F r) (eachOf (keepsRule F) p) k)) (marks-agree (n + 1) p (second (keepsRule F r) (eachOf (keepsRule F) p) k))

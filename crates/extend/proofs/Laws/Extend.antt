@@ -9,9 +9,9 @@ use mathlib.Core.List.{List}
 use lib.Dec.{T}
 use Rattle.literal.specs.declared.Limits.{Limits}
 use Rattle.literal.specs.declared.Literal.{Literal}
-use Rattle.literal.specs.Literal.{takes}
+use Rattle.literal.specs.Literal.{mostKind, takes}
 use Rattle.literal.specs.Order.{key}
-use Rattle.semantics.specs.Set.{all, sameLiteral, setOf}
+use Rattle.semantics.specs.Set.{eachOf, sameLiteral, setOf}
 use Rattle.semantics.specs.Rule.{Program}
 use Rattle.semantics.specs.Extension.{extension, sourceKind}
 use Rattle.semantics.specs.Form.{keepsRules}
@@ -22,7 +22,7 @@ use Rattle.litset.specs.Layout.{ascending}
 use Rattle.marks.specs.Marks.{marksFrom}
 use Rattle.marks.proofs.Laws.Members.{marks-added}
 use Rattle.extend.specs.Extend.{sorted, extensionList}
-use Rattle.extend.specs.Extending.{Extendable}
+use Rattle.extend.specs.Code.{Extendable}
 use Rattle.extend.proofs.Laws.Sorted.{Narrow, each-sorted}
 use Rattle.extend.proofs.Laws.Narrow.{marks-fit, literals-fit}
 use Rattle.extend.proofs.Laws.Inserted.{in-sorted, ascending-sorted, ascending-append}
@@ -42,14 +42,14 @@ extension-list F ok p k ls =
     set-ext (setOf (extensionList p ls)) (extension p (setOf ls)) (λ l y. along (in-list p ls h l) y) (λ l y. along (sym (in-list p ls h l)) y)
 
 -- the list ascends, for an ascending list of literals of source kinds whose fields fit two bytes
-pub extension-ascending : (p : Program) (ls : List Literal) → T (all sourceKind ls) → Narrow ls → T (ascending ls) → T (ascending (extensionList p ls))
+pub extension-ascending : (p : Program) (ls : List Literal) → T (eachOf sourceKind ls) → Narrow ls → T (ascending ls) → T (ascending (extensionList p ls))
 unfolding extensionList
 extension-ascending p ls s f a =
     let ms = marksFrom 1 p (setOf ls) in
     ascending-append firstMark ls (sorted ms) (below-literals ls s f) (each-sorted (λ l. firstMark ≤ key l) ms (not-below-marks (setOf ls) 1 p)) a (ascending-sorted ms)
 
 -- and for an ascending list of literals that a form without marks takes
-pub extension-ascending-form : (F : Limits) → Extendable F → F .kinds ≤ 3 → (p : Program) (ls : List Literal) → T (all (takes F) ls) → T (ascending ls) → T (ascending (extensionList p ls))
+pub extension-ascending-form : (F : Limits) → Extendable F → mostKind (F .kinds) ≤ 3 → (p : Program) (ls : List Literal) → T (eachOf (takes F) ls) → T (ascending ls) → T (ascending (extensionList p ls))
 extension-ascending-form F ok k p ls t a =
     let s = all-intro sourceKind ls (λ l m. takes-source F k l (all-mem (takes F) t m)) in
     extension-ascending p ls s (literals-fit F ok ls s t) a

@@ -15,7 +15,7 @@ use Rattle.buffer.specs.Bytes.{Bytes}
 use Rattle.literal.specs.declared.Limits.{Limits}
 use Rattle.literal.specs.declared.Literal.{Literal}
 use Rattle.literal.specs.Order.{key}
-use Rattle.semantics.specs.Set.{LiteralSet, all, setOf}
+use Rattle.semantics.specs.Set.{LiteralSet, eachOf, setOf}
 use Rattle.semantics.specs.Rule.{Rule, head, positive, naf, Program}
 use Rattle.semantics.specs.Form.{keepsCounts, keepsRule, keepsRules}
 use Rattle.semantics.proofs.Laws.Tests.{first, all-intro, all-mem}
@@ -26,20 +26,19 @@ use Rattle.record.specs.Reading.{parsed}
 use Rattle.record.proofs.Laws.Layout.{encoded-literals-append, length-encoded-literals}
 use Rattle.record.proofs.Laws.Reading.{parsed-sound}
 use Rattle.keys.specs.Keys.{sortedKeys}
-use Rattle.keys.specs.Bytes.{keyBytes, Fitting}
+use Rattle.keys.specs.Code.{keyBytes, Fitting}
 use Rattle.keys.proofs.Laws.Bytes.{fitting-sorted}
-use Rattle.sorting.specs.Sort.{Sorted}
+use Rattle.sorting.specs.Code.{Sorted}
 use Rattle.litset.specs.Layout.{encodedSet}
 use Rattle.litset.specs.Reading.{parsedSet}
-use Rattle.litset.specs.Keys.{keySet}
+use Rattle.litset.specs.Code.{keySet, setHeader}
 use Rattle.litset.proofs.Laws.Reading.{parsed-set-sound, length-encoded-set, keeps-set-most}
 use Rattle.litset.proofs.Laws.Keys.{has-key-member}
-use Rattle.litset.specs.Header.{setHeader}
 use Rattle.marks.specs.Marks.{marksFrom}
-use Rattle.marks.specs.Collect.{Gained, Marking}
+use Rattle.marks.specs.Code.{Gained, Marking}
 use Rattle.marks.proofs.Laws.Gained.{gained-front}
 use Rattle.extend.specs.Extend.{sorted, extensionList}
-use Rattle.extend.specs.Extending.{most, Extendable, joined}
+use Rattle.extend.specs.Code.{most, Extendable, joined}
 use Rattle.extend.proofs.Laws.Sorted.{Narrow, keys-sorted, keyBytes-sorted, fitting-keys}
 use Rattle.extend.proofs.Laws.Agree.{marks-agree}
 use Rattle.extend.proofs.Laws.Narrow.{marks-fit}
@@ -64,7 +63,7 @@ module _ (F : Limits) (ok : Extendable F) (s : List ℕ) (p : Program) (e : pars
   unfolding keeps
   within = first (keepsRules F p) (leb (length (encodedProgram p)) (F .length)) (parsed-sound F s p bytes e .1)
 
-  each : T (all (keepsRule F) p)
+  each : T (eachOf (keepsRule F) p)
   each = keeps-each F p within
 
   -- its marks can be collected

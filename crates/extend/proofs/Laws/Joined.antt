@@ -7,9 +7,9 @@ use mathlib.Core.List.{List, _++_}
 use lib.ListN.{length, take, drop, length-append, length-take, length-drop}
 use Rattle.buffer.specs.Write.{write}
 use Rattle.buffer.proofs.Laws.Next.{write-behind}
-use Rattle.keys.specs.Bytes.{keyBytes}
-use Rattle.litset.specs.Header.{setHeader}
-use Rattle.extend.specs.Extending.{joined}
+use Rattle.keys.specs.Code.{keyBytes}
+use Rattle.litset.specs.Code.{setHeader}
+use Rattle.extend.specs.Code.{joined}
 
 -- four bytes
 length-header : (n : ℕ) → length (setHeader n) ≡ 4

@@ -10,7 +10,7 @@ use lib.Dec.{T, leb}
 use lib.ListN.{length, length-append}
 use Rattle.literal.specs.declared.Limits.{Limits}
 use Rattle.literal.specs.declared.Literal.{Literal}
-use Rattle.literal.specs.Literal.{takes}
+use Rattle.literal.specs.Literal.{mostKind, takes}
 use Rattle.semantics.specs.Set.{LiteralSet, setOf}
 use Rattle.semantics.specs.Rule.{head, Program}
 use Rattle.semantics.specs.Form.{keepsRule, keepsRules}
@@ -22,14 +22,14 @@ use Rattle.litset.proofs.Laws.Reading.{keeps-set, keeps-set-ascending, keeps-se
 use Rattle.marks.specs.Marks.{marksFrom}
 use Rattle.marks.proofs.Laws.Count.{length-program}
 use Rattle.extend.specs.Extend.{sorted, extensionList}
-use Rattle.extend.specs.Extending.{most, Extendable}
+use Rattle.extend.specs.Code.{most, Extendable}
 use Rattle.extend.proofs.Laws.Sorted.{length-sorted}
 use Rattle.extend.proofs.Laws.Gathered.{few-heads}
 use Rattle.extend.proofs.Laws.Extend.{extension-list, extension-ascending-form}
 
 module _ (F : Limits) (ok : Extendable F) (p : Program) (k : T (keepsRules F p)) where
   -- the marks are no more than the limits leave room for
-  length-extension : (ls : List Literal) → length (extensionList p ls) ≤ length ls + most
+  pub length-extension : (ls : List Literal) → length (extensionList p ls) ≤ length ls + most
   unfolding extensionList
   length-extension ls =
       let ms = marksFrom 1 p (setOf ls) in
@@ -44,7 +44,7 @@ module _ (F : Limits) (ok : Extendable F) (p : Program) (k : T (keepsRules F p))
       )
 
   -- the list is a set within the limits of a form that covers F
-  pub extension-keeps : (G : Limits) → Covers F G → F .kinds ≤ 3 → F .literals + most ≤ G .literals → (ls : List Literal) → T (keepsSet F (F .literals) ls) → T (keepsSet G (G .literals) (extensionList p ls))
+  pub extension-keeps : (G : Limits) → Covers F G → mostKind (F .kinds) ≤ 3 → F .literals + most ≤ G .literals → (ls : List Literal) → T (keepsSet F (F .literals) ls) → T (keepsSet G (G .literals) (extensionList p ls))
   extension-keeps G covers kinds room ls h =
       let taken = keeps-set-taken F (F .literals) ls h in
       let within = extension-within F G covers p k (setOf ls) (λ l y. takes-source F kinds l (all-mem (takes F) taken (mem-set-of l ls y))) (λ l y. all-mem (takes F) taken (mem-set-of l ls y)) in

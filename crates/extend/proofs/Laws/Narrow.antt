@@ -14,7 +14,7 @@ use Rattle.literal.specs.declared.Literal.{Literal}
 use Rattle.literal.specs.declared.Literal.the-variants.{Signed, Defeated, Derived, RuleDefeated}
 use Rattle.literal.specs.Literal.{atomNumber, tagField, atomField, inRange, ranged, takes}
 use Rattle.literal.proofs.Laws.Literal.{takes-ranged}
-use Rattle.semantics.specs.Set.{LiteralSet, all}
+use Rattle.semantics.specs.Set.{LiteralSet, eachOf}
 use Rattle.semantics.specs.Rule.{Rule, strict, defeasible, head, Program}
 use Rattle.semantics.specs.Extension.{sourceKind}
 use Rattle.semantics.specs.Form.{keepsTag, keepsRule}
@@ -22,7 +22,7 @@ use Rattle.semantics.proofs.Laws.Tests.{first, second, all-mem, all-map, along}
 use Rattle.semantics.proofs.Laws.Form.{keeps-tag, keeps-head}
 use Rattle.marks.specs.Marks.{marksFrom}
 use Rattle.marks.proofs.Laws.Each.{Adds, each-mark}
-use Rattle.extend.specs.Extending.{Extendable}
+use Rattle.extend.specs.Code.{Extendable}
 use Rattle.extend.proofs.Laws.Sorted.{Fits, Narrow}
 
 module _ (F : Limits) (ok : Extendable F) where
@@ -39,7 +39,7 @@ module _ (F : Limits) (ok : Extendable F) where
       let range = first (inRange (F .tags) (t .0)) (leb 1 (length h)) ranges in
       omega (arith, leb→le (t .0) (F .tags) (second (leb 1 (t .0)) (leb (t .0) (F .tags)) range), ok .tags)
 
-  pub options-taken : (t : Tag) (h : List SignedAtom) (b c : List Literal) → T (keepsRule F (defeasible t h b c)) → T (all (takes F) (map Signed h))
+  pub options-taken : (t : Tag) (h : List SignedAtom) (b c : List Literal) → T (keepsRule F (defeasible t h b c)) → T (eachOf (takes F) (map Signed h))
   unfolding head
   options-taken t h b c k = keeps-head F (defeasible t h b c) k
 
@@ -55,10 +55,10 @@ module _ (F : Limits) (ok : Extendable F) where
   fields-fit (Derived t a) s k = absurd s
   fields-fit (RuleDefeated n) s k = absurd s
 
-  pub literals-fit : (ls : List Literal) → T (all sourceKind ls) → T (all (takes F) ls) → Narrow ls
+  pub literals-fit : (ls : List Literal) → T (eachOf sourceKind ls) → T (eachOf (takes F) ls) → Narrow ls
   literals-fit [] s k = tt
   literals-fit (l ∷ ls) s k =
-      (fields-fit l (first (sourceKind l) (all sourceKind ls) s) (first (takes F l) (all (takes F) ls) k), literals-fit ls (second (sourceKind l) (all sourceKind ls) s) (second (takes F l) (all (takes F) ls) k))
+      (fields-fit l (first (sourceKind l) (eachOf sourceKind ls) s) (first (takes F l) (eachOf (takes F) ls) k), literals-fit ls (second (sourceKind l) (eachOf sourceKind ls) s) (second (takes F l) (eachOf (takes F) ls) k))
 
   -- so do the fields of a program's marks
   marks-of : (n : ℕ) (r : Rule) → n < 65536 → T (keepsRule F r) → Adds Fits n r
@@ -70,5 +70,5 @@ module _ (F : Limits) (ok : Extendable F) where
         (omega arith, l),
       )
 
-  pub marks-fit : (s : LiteralSet) (n : ℕ) (p : Program) → n + length p ≤ 65536 → T (all (keepsRule F) p) → Narrow (marksFrom n p s)
+  pub marks-fit : (s : LiteralSet) (n : ℕ) (p : Program) → n + length p ≤ 65536 → T (eachOf (keepsRule F) p) → Narrow (marksFrom n p s)
   marks-fit s n p l k = each-mark Fits s n p (λ m r h i. marks-of m r (omega arith) (all-mem (keepsRule F) k i))

@@ -1,6 +1,5 @@
 -- Laws of extending: the outcome, from what reading the program and the set gives and the room that there is.
--- In order: the extension's bytes; a refusal of either; what was read of both; 9, and the record; the form
--- of sources.
+-- In order: a refusal of either; both, as read; 9, and the record; the form of sources.
 -- Assumes nothing.
 use Prim.Native.Nat.{ℕ, _+_, _*_, _≤_, _<_}
 use native.Mathlib.Omega.{arith}
@@ -20,70 +19,36 @@ use Rattle.record.specs.declared.Reading.{Reading}
 use Rattle.record.specs.declared.Written.{Written}
 use Rattle.record.specs.declared.Written.the-variants.{Length, Refused}
 use Rattle.record.specs.Refusal.{refusal}
-use Rattle.record.specs.Result.{Result, accepted, refused, andThen}
-use Rattle.record.specs.Reading.{parsed, reading}
+use Rattle.record.specs.Result.{accepted}
+use Rattle.record.specs.Reading.{parsed}
 use Rattle.record.specs.Meets.{Meets}
 use Rattle.record.proofs.Laws.Delivered.{meets-refused, meets-short, meets-written}
 use Rattle.keys.specs.Keys.{sortedKeys}
-use Rattle.keys.specs.Bytes.{Fitting}
-use Rattle.sorting.specs.Sort.{Sorted}
-use Rattle.litset.specs.declared.SetReading.{SetReading}
+use Rattle.keys.specs.Code.{Fitting}
+use Rattle.sorting.specs.Code.{Sorted}
 use Rattle.litset.specs.Layout.{encodedSet}
-use Rattle.litset.specs.Reading.{parsedSet, setReading}
-use Rattle.litset.specs.Keys.{Ascends, keySet}
+use Rattle.litset.specs.Reading.{parsedSet}
+use Rattle.litset.specs.Code.{Ascends, keySet}
 use Rattle.litset.proofs.Laws.Keys.{set-long, set-ascends}
-use Rattle.litset.proofs.Laws.Answered.{program-rules, program-refused, set-literals, set-refused}
+use Rattle.inputs.specs.Code.{inputsReading, Inputs}
+use Rattle.inputs.proofs.Laws.Inputs.{inputs-refused, inputs-given}
 use Rattle.marks.specs.Marks.{marksFrom}
-use Rattle.marks.specs.Collect.{Marking}
+use Rattle.marks.specs.Code.{Marking}
 use Rattle.extend.specs.Extend.{extensionList, extensionBytes, extended}
-use Rattle.extend.specs.Extending.{most, Extendable, Extending, joined}
+use Rattle.extend.specs.Code.{most, Extendable, joined}
 use Rattle.extend.proofs.Laws.Gathered.{marking, marking-program, gathered-few, gathered-fitting, gathered-record, gathered-length}
 
 module _ (F : Limits) (s k : List ℕ) where
-  -- the extension's bytes, where the program is read
-  of-set : Program → Result (List Literal) → Result (List ℕ)
-  of-set p q = andThen q (λ ls. accepted (encodedSet (extensionList p ls)))
-
-  of-program : Result Program → Result (List ℕ)
-  of-program q = andThen q (λ p. of-set p (parsedSet F (F .literals) k))
-
-  bytes-refused : (x : Refusal) → parsed F s ≡ refused x → extensionBytes F s k ≡ refused x
-  unfolding extensionBytes andThen of-program of-set
-  bytes-refused x e = ap of-program e
-
-  bytes-set : (p : Program) (q : Result (List Literal)) → parsed F s ≡ accepted p → parsedSet F (F .literals) k ≡ q → extensionBytes F s k ≡ of-set p q
-  unfolding extensionBytes andThen of-program of-set
-  bytes-set p q e m = ap of-program e ∙ ap (of-set p) m
-
-  bytes-set-refused : (p : Program) (x : Refusal) → parsed F s ≡ accepted p → parsedSet F (F .literals) k ≡ refused x → extensionBytes F s k ≡ refused x
-  unfolding andThen of-set
-  bytes-set-refused p x e m = bytes-set p (refused x) e m
+  -- a refusal of the program or the set is the answer
+  pub extended-refused : (out : List ℕ) (x : Refusal) → inputsReading F (F .literals) s k ≡ Reading.Refused x → Meets (extended F s k out) (Refused x) out
+  unfolding extended extensionBytes
+  extended-refused out x e = meets-refused (extensionBytes F s k) out x (inputs-refused F (F .literals) s k (λ p ls. accepted (encodedSet (extensionList p ls))) x e)
 
   bytes-accepted : (p : Program) (ls : List Literal) → parsed F s ≡ accepted p → parsedSet F (F .literals) k ≡ accepted ls → extensionBytes F s k ≡ accepted (encodedSet (extensionList p ls))
-  unfolding andThen of-set
-  bytes-accepted p ls e m = bytes-set p (accepted ls) e m
+  unfolding extensionBytes
+  bytes-accepted p ls e m = inputs-given F (F .literals) s k (λ p ls. accepted (encodedSet (extensionList p ls))) p e ls m
 
-  module _ (out : List ℕ) where
-    -- a refusal of the program is the answer
-    pub extended-refused : (r : Written) (x : Refusal) → r ≡ Refused x → reading F s ≡ Reading.Refused x → Meets (extended F s k out) r out
-    unfolding extended
-    extended-refused r x e f = rw e (meets-refused (extensionBytes F s k) out x (bytes-refused x (program-refused F s x f)))
-
-    -- a refusal of the set, where the program is read
-    pub member-refused : (r : Written) (n : ℕ) (x : Refusal) → reading F s ≡ Reading.Rules n → r ≡ Refused x → setReading F (F .literals) k ≡ SetReading.Refused x → Meets (extended F s k out) r out
-    unfolding extended
-    member-refused r n x a e f =
-        let w = program-rules F s n a in
-        rw e (meets-refused (extensionBytes F s k) out x (bytes-set-refused (w .0) x (w .1) (set-refused F (F .literals) k x f)))
-
-  -- both are read
-  pub both-read : (n c : ℕ) → reading F s ≡ Reading.Rules n → setReading F (F .literals) k ≡ SetReading.Literals c → Extending F s k c
-  both-read n c a e =
-      let w = program-rules F s n a in
-      let v = set-literals F (F .literals) k c e in
-      record { program = w .0; holds = w .1; literals = v .0; members = v .1; counted = sym (v .2) }
-
-  module _ (ok : Extendable F) (count : ℕ) (w : Extending F s k count) (bs : Bytes s) (bk : Bytes k) where
+  module _ (ok : Extendable F) (count : ℕ) (w : Inputs F (F .literals) s k count) (bs : Bytes s) (bk : Bytes k) where
     -- its marks can be collected, and the set searched
     pub extending-marking : Marking s most
     extending-marking = marking F ok s (w .program) (w .holds) bs

@@ -1,8 +1,12 @@
--- `filter::main` is safe: what is written lies within the buffer, as `filter_translate` promises.
+-- `filter::main` is safe: its buffers have the sizes that `filter_translate` asks for, and what is written lies within the
+-- buffer, as it promises.
 -- Assumes nothing.
+use native.Mathlib.Omega.{arith}
 use mathlib.Core.Path.{sym}
 use borrow.Author.Needs.{needs}
 use lib.Seq.{length-take-le}
+use Rattle.literal.specs.Limits.{source}
+use Rattle.printing.specs.Filter.{inputSize}
 use Rattle.filter.proofs.main.Statement.{statement}
 use Rattle.filter.proofs.main.Tie as tie
 
@@ -12,9 +16,6 @@ slice-aggregate-read-full c = search needs
 read-full-requires : tie.Need-read-full-requires
 read-full-requires c κs = search needs
 
-array-share-prefix-input : tie.Need-array-share-prefix-input
-array-share-prefix-input c = search needs
-
 slice-aggregate-filter-translate : tie.Need-slice-aggregate-filter-translate
 slice-aggregate-filter-translate c = search needs
 
@@ -22,7 +23,8 @@ slice-aggregate-filter-translate-2 : tie.Need-slice-aggregate-filter-translate-2
 slice-aggregate-filter-translate-2 c = search needs
 
 filter-translate-requires : tie.Need-filter-translate-requires
-filter-translate-requires c κs = search needs
+unfolding inputSize source
+filter-translate-requires c κs = omega arith
 
 array-share-prefix-output : tie.Need-array-share-prefix-output
 array-share-prefix-output c = search needs
@@ -30,7 +32,7 @@ array-share-prefix-output c = search needs
 slice-aggregate-write-all : tie.Need-slice-aggregate-write-all
 slice-aggregate-write-all c =
     let call = c .before .before .filter-translate in
-    sym (length-take-le (call .result) (call .last .1 .0) (call .ensures .within))
+    sym (length-take-le (call .result) _ (call .ensures .within))
 
 write-all-requires : tie.Need-write-all-requires
 write-all-requires c κs = search needs
@@ -44,7 +46,6 @@ main-spec =
     (tie.spec
     slice-aggregate-read-full
     read-full-requires
-    array-share-prefix-input
     slice-aggregate-filter-translate
     slice-aggregate-filter-translate-2
     filter-translate-requires

@@ -15,26 +15,27 @@ use Rattle.semantics.specs.Verdict.{brokenFrom, firstSubset, smallerModel}
 use Rattle.semantics.proofs.Laws.Verdict.{broken-some}
 use Rattle.record.specs.Layout.{encodedProgram}
 use Rattle.litset.specs.Layout.{encodedSet}
-use Rattle.narrow.specs.Clause.{Smaller}
-use Rattle.narrow.specs.Picked.{distinct}
+use Rattle.narrow.specs.Code.{Smaller}
+use Rattle.narrow.proofs.Laws.Build.{distinct}
 use Rattle.search.specs.declared.Found.{Found}
-use Rattle.search.specs.Search.{First, foundIn}
+use Rattle.search.specs.Code.{First}
+use Rattle.search.proofs.Laws.Found.{foundIn}
 use Rattle.search.proofs.Laws.Bridge.{first-smaller-model}
 use Rattle.clauses.specs.declared.Built.{Built}
-use Rattle.clauses.specs.Build.{Clauses}
+use Rattle.clauses.specs.Code.{Clauses}
 
 module _ {s k : List ℕ} {n : ℕ} {r : Built} {bodies heads : List ℕ} (c : Clauses s k n r bodies heads)
     (p : Program) (ls : List Literal) (program : s ≡ encodedProgram p) (set : k ≡ encodedSet ls) (count : length ls ≡ n) where
   -- a number that was answered is that of the first broken rule
-  pub built-broken : 0 < r .broken → brokenFrom 1 p (setOf ls) ≡ some (r .broken)
+  pub built-broken : 0 < r .broken .0 → brokenFrom 1 p (setOf ls) ≡ some (r .broken .0)
   built-broken h = go (brokenFrom 1 p (setOf ls)) refl
     where
-      go : (o : Option ℕ) → brokenFrom 1 p (setOf ls) ≡ o → o ≡ some (r .broken)
+      go : (o : Option ℕ) → brokenFrom 1 p (setOf ls) ≡ o → o ≡ some (r .broken .0)
       go none e = absurd (omega (arith, c .whole p ls program set count e .0))
       go (some m) e = ap some (sym (c .broken p ls program set count m e))
 
   -- and 0 says that none is broken
-  pub built-whole : r .broken ≡ 0 → brokenFrom 1 p (setOf ls) ≡ none
+  pub built-whole : r .broken .0 ≡ 0 → brokenFrom 1 p (setOf ls) ≡ none
   built-whole z = go (brokenFrom 1 p (setOf ls)) refl
     where
       go : (o : Option ℕ) → brokenFrom 1 p (setOf ls) ≡ o → o ≡ none
@@ -42,11 +43,11 @@ module _ {s k : List ℕ} {n : ℕ} {r : Built} {bodies heads : List ℕ} (c : C
       go (some m) e = absurd (omega (arith, broken-some 1 p (setOf ls) m e .position, c .broken p ls program set count m e))
 
   -- there is no more than one clause for each rule
-  pub built-few : r .broken ≡ 0 → r .count ≤ length p
+  pub built-few : r .broken .0 ≡ 0 → r .count ≤ length p
   built-few z = c .whole p ls program set count (built-whole z) .1
 
   -- the search over them finds the first smaller model
-  pub built-first : T (distinct ls) → r .broken ≡ 0 → r .count ≤ length bodies → (f : Found) → First (Smaller (2 ^ n - 1) bodies heads (r .count)) f
+  pub built-first : T (distinct ls) → r .broken .0 ≡ 0 → r .count ≤ length bodies → (f : Found) → First (Smaller (2 ^ n - 1) bodies heads (r .count)) f
       → firstSubset ls (smallerModel (quotient p (setOf ls)) ls) ≡ foundIn ls f
   built-first d z enough f first =
       let w = c .whole p ls program set count (built-whole z) in

@@ -6,12 +6,12 @@ use mathlib.Core.List.{List, []}
 use lib.ListN.{length}
 use Rattle.buffer.specs.Write.{write}
 use Rattle.buffer.proofs.Laws.Write.{write-nil}
-use Rattle.narrow.specs.Clause.{Smaller}
+use Rattle.narrow.specs.Code.{Smaller}
 use Rattle.search.specs.declared.Found.{Found}
-use Rattle.search.specs.Search.{First}
+use Rattle.search.specs.Code.{First}
 use Rattle.judge.specs.declared.Verdict.{Verdict}
-use Rattle.witness.specs.Witness.{pickedRecord}
-use Rattle.judge.specs.Decide.{foundRecord, foundVerdict, Decided}
+use Rattle.witness.specs.Code.{pickedRecord}
+use Rattle.judge.specs.Code.{foundRecord, foundVerdict, Decided}
 
 module _ (s : List ℕ) (n : ℕ) (f : Found) where
   pub record-some : f .found ≡ true → foundRecord s n f ≡ pickedRecord (f .model) s n

@@ -7,8 +7,7 @@ use Rattle.literal.specs.declared.Literal.{Literal}
 use Rattle.literal.specs.Order.{key, before}
 use Rattle.semantics.proofs.Laws.Tests.{first, second}
 use Rattle.litset.specs.Layout.{ascending}
-use Rattle.narrow.specs.Picked.{distinct}
-use Rattle.narrow.proofs.Laws.Build.{distinct-below}
+use Rattle.narrow.proofs.Laws.Build.{distinct, distinct-below}
 
 before-trans : (l m n : Literal) → T (before l m) → T (before m n) → T (before l n)
 unfolding before

@@ -12,11 +12,11 @@ use Rattle.semantics.proofs.Laws.Verdict.{findingOf, found-as}
 
 module _ (p : Program) (ls : List Literal) where
   -- a clash
-  pub finds-clash : (k : ℕ) → clashFrom 1 p (setOf ls) ls ≡ some k → finding p ls ≡ clash k
+  pub finds-clash : (k : ℕ) → clashFrom 1 (setOf ls) ls ≡ some k → finding p ls ≡ clash k
   unfolding findingOf
   finds-clash k e = found-as p ls e refl refl
 
-  module _ (e : clashFrom 1 p (setOf ls) ls ≡ none) where
+  module _ (e : clashFrom 1 (setOf ls) ls ≡ none) where
     -- no clash, and a rule that does not hold
     pub finds-broken : (k : ℕ) → brokenFrom 1 p (setOf ls) ≡ some k → finding p ls ≡ broken k
     unfolding findingOf

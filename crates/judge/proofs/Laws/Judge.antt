@@ -11,24 +11,22 @@ use Rattle.buffer.specs.Write.{write}
 use Rattle.literal.specs.declared.Limits.{Limits}
 use Rattle.literal.specs.declared.Literal.{Literal}
 use Rattle.semantics.specs.Set.{setOf}
-use Rattle.semantics.specs.Rule.{Program}
 use Rattle.semantics.specs.Meaning.{quotient}
 use Rattle.semantics.specs.Verdict.{clashFrom, brokenFrom, firstSubset, smallerModel}
 use Rattle.record.specs.Result.{accepted}
 use Rattle.litset.specs.Layout.{encodedSet}
 use Rattle.litset.specs.Reading.{parsedSet}
-use Rattle.litset.specs.Keys.{Ascends}
+use Rattle.litset.specs.Code.{Ascends}
 use Rattle.litset.proofs.Laws.Reading.{keeps-set-ascending, parsed-set-sound, length-parsed-set}
 use Rattle.litset.proofs.Laws.Keys.{literals-lie, set-ascends}
-use Rattle.narrow.specs.Picked.{picked}
-use Rattle.search.specs.Search.{foundIn}
-use Rattle.search.proofs.Laws.Found.{found-some, found-none}
+use Rattle.narrow.proofs.Laws.Build.{picked}
+use Rattle.search.proofs.Laws.Found.{foundIn, found-some, found-none}
 use Rattle.clauses.specs.declared.Built.{Built}
-use Rattle.clauses.specs.Build.{Clauses}
+use Rattle.clauses.specs.Code.{Clauses}
 use Rattle.judge.specs.declared.Verdict.{Verdict}
-use Rattle.clash.specs.Clash.{clashAt}
-use Rattle.witness.specs.Witness.{pickedRecord}
-use Rattle.judge.specs.Decide.{Decided, Judgeable, Meant, Judged}
+use Rattle.clash.specs.Code.{clashAt}
+use Rattle.witness.specs.Code.{pickedRecord}
+use Rattle.judge.specs.Code.{Decided, Judgeable, Meant, Judged}
 use Rattle.clash.proofs.Laws.Opposed.{clash-found, clash-absent}
 use Rattle.witness.proofs.Laws.Witness.{picked-record}
 use Rattle.judge.proofs.Laws.Distinct.{ascending-distinct}
@@ -48,7 +46,7 @@ module _ {s k : List ℕ} {n b h size : ℕ} (j : Judgeable s k n b h size) wher
   judge-ascends = let b = j .buildable in subst (Ascends k) (b .count) (set-ascends (b .form) (b .most) k (b .literals) (b .bytes) (b .held))
 
   -- no more clauses than there is room for
-  pub judge-few : {r : Built} {bodies heads : List ℕ} → Clauses s k n r bodies heads → r .broken ≡ 0 → (r .count ≤ b) × (r .count ≤ h)
+  pub judge-few : {r : Built} {bodies heads : List ℕ} → Clauses s k n r bodies heads → r .broken .0 ≡ 0 → (r .count ≤ b) × (r .count ≤ h)
   judge-few c z =
       let a = j .buildable in
       let few = built-few c (a .program) (a .literals) (a .source) (parsed-set-sound (a .form) (a .most) k (a .literals) (a .bytes) (a .held) .0) (a .count) z in
@@ -66,23 +64,23 @@ module _ {s k : List ℕ} {n b h size : ℕ} (j : Judgeable s k n b h size) wher
   judged-clash {r} out e h F most p ls program held =
       meant-clash p ls out r
       (finds-clash p ls r
-      (clash-found F most k ls (j .buildable .bytes) held p r (subst (λ (m : ℕ). r ≡ clashAt k m 1 4 m) (sym (counted F most ls held)) e) h))
+      (clash-found F most k ls (j .buildable .bytes) held r (subst (λ (m : ℕ). r ≡ clashAt k m 1 4 m) (sym (counted F most ls held)) e) h))
 
   module _ {z : ℕ} (e : z ≡ clashAt k n 1 4 n) (zero : z ≡ 0) {r : Built} {bodies heads : List ℕ} (c : Clauses s k n r bodies heads) (out : List ℕ) where
-    consistent : (F : Limits) (most : ℕ) (p : Program) (ls : List Literal) → parsedSet F most k ≡ accepted ls → clashFrom 1 p (setOf ls) ls ≡ none
-    consistent F most p ls held =
-        clash-absent F most k ls (j .buildable .bytes) held p
+    consistent : (F : Limits) (most : ℕ) (ls : List Literal) → parsedSet F most k ≡ accepted ls → clashFrom 1 (setOf ls) ls ≡ none
+    consistent F most ls held =
+        clash-absent F most k ls (j .buildable .bytes) held
         (subst (λ (m : ℕ). clashAt k m 1 4 m ≡ 0) (sym (counted F most ls held)) (sym e ∙ zero))
 
     -- no clash, and the first broken rule
-    pub judged-broken : 0 < r .broken → Judged s k out (Verdict.Broken (r .broken)) out
+    pub judged-broken : 0 < r .broken .0 → Judged s k out (Verdict.Broken (r .broken)) out
     judged-broken h F most p ls program held =
-        meant-broken p ls out (r .broken)
-        (finds-broken p ls (consistent F most p ls held) (r .broken)
+        meant-broken p ls out (r .broken .0)
+        (finds-broken p ls (consistent F most ls held) (r .broken .0)
         (built-broken c p ls program (encoded-as F most ls held) (counted F most ls held) h))
 
     -- neither: what the search over the clauses found
-    pub judged-decided : {v : Verdict} {end : List ℕ} → r .broken ≡ 0 → r .count ≤ length bodies → Decided k n bodies heads (r .count) out v end → Judged s k out v end
+    pub judged-decided : {v : Verdict} {end : List ℕ} → r .broken .0 ≡ 0 → r .count ≤ length bodies → Decided k n bodies heads (r .count) out v end → Judged s k out v end
     judged-decided {v} {end} whole enough d F most p ls program held = go (d .model .found) refl
       where
         set : k ≡ encodedSet ls
@@ -106,8 +104,8 @@ module _ {s k : List ℕ} {n b h size : ℕ} (j : Judgeable s k n b h size) wher
         go : (b : Bool) → d .model .found ≡ b → Meant p ls out v end
         go true q =
             meant-smaller p ls out v end (picked (d .model .model) ls) (pickedRecord (d .model .model) k n)
-            (finds-smaller p ls (consistent F most p ls held) none-broken (picked (d .model .model) ls) (first ∙ found-some ls (d .model) q)) bytes
+            (finds-smaller p ls (consistent F most ls held) none-broken (picked (d .model .model) ls) (first ∙ found-some ls (d .model) q)) bytes
             (d .answer ∙ verdict-some k n (d .model) q) (d .buffer ∙ ap (write out 0) (record-some k n (d .model) q))
         go false q =
-            meant-yes p ls out v end (finds-answer-set p ls (consistent F most p ls held) none-broken (first ∙ found-none ls (d .model) q))
+            meant-yes p ls out v end (finds-answer-set p ls (consistent F most ls held) none-broken (first ∙ found-none ls (d .model) q))
             (d .answer ∙ verdict-none k n (d .model) q) (d .buffer ∙ ap (write out 0) (record-none k n (d .model) q))

@@ -11,7 +11,7 @@ use Rattle.semantics.specs.Verdict.{Finding, clash, broken, smaller, answerSet,
 use Rattle.litset.specs.Layout.{encodedSet}
 use Rattle.judge.specs.declared.Verdict.{Verdict}
 use Rattle.judge.specs.Verdict.{verdictOf, witness}
-use Rattle.judge.specs.Decide.{Meant}
+use Rattle.judge.specs.Code.{Meant}
 
 module _ (p : Program) (ls : List Literal) (out : List ℕ) where
   -- a finding without a witness leaves the output as it came
@@ -26,9 +26,9 @@ module _ (p : Program) (ls : List Literal) (out : List ℕ) where
   unfolding verdictOf witness
   meant-clash k e = unwritten (clash k) (Verdict.Clash k) e refl refl
 
-  pub meant-broken : (n : ℕ) → finding p ls ≡ broken n → Meant p ls out (Verdict.Broken n) out
+  pub meant-broken : (n : ℕ) → finding p ls ≡ broken n → Meant p ls out (Verdict.Broken (record { 0 = n })) out
   unfolding verdictOf witness
-  meant-broken n e = unwritten (broken n) (Verdict.Broken n) e refl refl
+  meant-broken n e = unwritten (broken n) (Verdict.Broken (record { 0 = n })) e refl refl
 
   pub meant-yes : (r : Verdict) (end : List ℕ) → finding p ls ≡ answerSet → r ≡ Verdict.Yes → end ≡ write out 0 [] → Meant p ls out r end
   unfolding verdictOf witness

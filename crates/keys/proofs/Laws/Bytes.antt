@@ -18,7 +18,7 @@ use Rattle.literal.specs.Literal.{kind, tagField, atomField, encoded}
 use Rattle.literal.specs.Order.{key}
 use Rattle.literal.proofs.Laws.Literal.{kind-most}
 use Rattle.keys.specs.Keys.{keyIn, sortedKeys}
-use Rattle.keys.specs.Bytes.{bytesOf, keyBytes, Fitting}
+use Rattle.keys.specs.Code.{bytesOf, keyBytes, Fitting}
 use Rattle.keys.proofs.Laws.Members.{either, in-at}
 use Rattle.keys.proofs.Laws.Sorted.{in-sorted}
 

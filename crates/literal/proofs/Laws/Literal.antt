@@ -19,10 +19,8 @@ use Rattle.literal.specs.declared.Limits.{Limits}
 use Rattle.literal.specs.declared.SignedAtom.the-variants.{Positive, Negative}
 use Rattle.literal.specs.declared.Literal.{Literal}
 use Rattle.literal.specs.declared.Literal.the-variants.{Signed, Defeated, Derived, RuleDefeated}
-use Rattle.literal.specs.declared.Decoded.{Decoded}
-use Rattle.literal.specs.declared.Decoded.the-variants.{Valid, Wrong}
-use Rattle.literal.specs.Literal.{atomNumber, kind, tagField, atomField, encoded, inRange, ranged, takes}
-use Rattle.literal.specs.Literal.{negatedKind, signedAtom, spelled, within, decoded, isValid}
+use Rattle.literal.specs.Literal.{Decoded, Valid, Wrong, atomNumber, kind, tagField, atomField, encoded, inRange, ranged, mostKind, takes, negatedKind, signedAtom, spelled, within, decoded}
+use Rattle.literal.specs.Code.{isValid}
 
 -- the largest kind
 pub kind-most : (l : Literal) → kind l ≤ 6
@@ -194,18 +192,18 @@ module _ (F : Limits) where
       (take-five bs h n ∙ rw (f .of-kind, f .of-tag, f .of-atom), v .1)
 
   -- what the form takes is of its kinds, and in its ranges
-  pub takes-kind : (l : Literal) → T (takes F l) → kind l ≤ F .kinds
+  pub takes-kind : (l : Literal) → T (takes F l) → kind l ≤ mostKind (F .kinds)
   unfolding takes
-  takes-kind l h = leb→le (kind l) (F .kinds) (and-l (leb (kind l) (F .kinds)) (ranged F l) h)
+  takes-kind l h = leb→le (kind l) (mostKind (F .kinds)) (and-l (leb (kind l) (mostKind (F .kinds))) (ranged F l) h)
 
   pub takes-ranged : (l : Literal) → T (takes F l) → T (ranged F l)
   unfolding takes
-  takes-ranged l h = and-r (leb (kind l) (F .kinds)) (ranged F l) h
+  takes-ranged l h = and-r (leb (kind l) (mostKind (F .kinds))) (ranged F l) h
 
   -- what is of its kinds and in its ranges, the form takes
-  pub takes-both : (l : Literal) → kind l ≤ F .kinds → T (ranged F l) → T (takes F l)
+  pub takes-both : (l : Literal) → kind l ≤ mostKind (F .kinds) → T (ranged F l) → T (takes F l)
   unfolding takes
-  takes-both l k h = rw (le-leb (kind l) (F .kinds) k) h
+  takes-both l k h = rw (le-leb (kind l) (mostKind (F .kinds)) k) h
 
   -- the tag of a literal in the form's ranges
   ranged-tag : (l : Literal) → T (ranged F l) → tagField l ≤ F .tags

@@ -19,9 +19,9 @@ use Rattle.buffer.proofs.Laws.Bytes.{bytes-tail, bytes-take, number-twoBytes}
 use Rattle.literal.specs.declared.Limits.{Limits}
 use Rattle.literal.specs.declared.Literal.{Literal}
 use Rattle.literal.specs.declared.Literal.the-variants.{Signed, Defeated, Derived, RuleDefeated}
-use Rattle.literal.specs.declared.Decoded.the-variants.{Valid}
-use Rattle.literal.specs.Literal.{atomNumber, kind, tagField, atomField, encoded, inRange, ranged, takes, decoded}
-use Rattle.literal.specs.Order.{bytesBefore, key, keyAt, keyRoom, before}
+use Rattle.literal.specs.Literal.{Valid, atomNumber, kind, tagField, atomField, encoded, inRange, ranged, takes, decoded}
+use Rattle.literal.specs.Order.{bytesBefore, key, before}
+use Rattle.literal.specs.Code.{keyAt, keyRoom}
 use Rattle.literal.proofs.Laws.Literal.{bytes-encoded, fields-injective, encoded-decoded, takes-ranged}
 
 -- the number that a byte string spells, the highest byte first

@@ -13,13 +13,12 @@ use Rattle.buffer.specs.Bytes.{Bytes}
 use Rattle.buffer.proofs.Laws.Bytes.{bytes-drop}
 use Rattle.literal.specs.declared.Limits.{Limits}
 use Rattle.literal.specs.declared.Literal.{Literal}
-use Rattle.literal.specs.declared.Decoded.{Decoded}
-use Rattle.literal.specs.declared.Decoded.the-variants.{Valid, Wrong}
-use Rattle.literal.specs.Literal.{encoded, decoded, takes}
-use Rattle.literal.specs.Order.{bytesBefore, key, keyAt, before}
+use Rattle.literal.specs.Literal.{Decoded, Valid, Wrong, encoded, decoded, takes}
+use Rattle.literal.specs.Order.{bytesBefore, key, before}
+use Rattle.literal.specs.Code.{keyAt}
 use Rattle.literal.proofs.Laws.Literal.{length-encoded, decoded-encoded}
 use Rattle.literal.proofs.Laws.Order.{keyAt-encoded, keyAt-decoded, key-positive}
-use Rattle.semantics.specs.Set.{all}
+use Rattle.semantics.specs.Set.{eachOf}
 use Rattle.semantics.proofs.Laws.Tests.{both, first, second, is-true}
 use Rattle.record.specs.declared.Reason.the-variants.{LiteralWrong}
 use Rattle.record.specs.Refusal.{refusal}
@@ -42,11 +41,11 @@ above-ascending l [] = refl
 above-ascending l (m ∷ ls) = ap (λ b. ltb (key l) (key m) && b) (above-ascending m ls)
 
 -- literals of a form ascend where their keys do from 0 on
-pub ascending-above : (F : Limits) (ls : List Literal) → T (all (takes F) ls) → ascending ls ≡ above 0 ls
+pub ascending-above : (F : Limits) (ls : List Literal) → T (eachOf (takes F) ls) → ascending ls ≡ above 0 ls
 unfolding ascending
 ascending-above F [] t = refl
 ascending-above F (l ∷ ls) t =
-    above-ascending l ls ∙ ap (λ b. b && above (key l) ls) (sym (lt-ltb 0 (key l) (key-positive F l (first (takes F l) (all (takes F) ls) t))))
+    above-ascending l ls ∙ ap (λ b. b && above (key l) ls) (sym (lt-ltb 0 (key l) (key-positive F l (first (takes F l) (eachOf (takes F) ls) t))))
 
 module _ (F : Limits) (s : List ℕ) (bytes : Bytes s) where
   -- a literal at the head of a run
@@ -88,7 +87,7 @@ module _ (F : Limits) (s : List ℕ) (bytes : Bytes s) where
           )
 
   -- ascending literals of the form are accepted
-  pub members-complete : (ls : List Literal) (at : ℕ) (last : List ℕ) (k : ℕ) (rest : List ℕ) → Alike F last k → T (all (takes F) ls) → T (above k ls)
+  pub members-complete : (ls : List Literal) (at : ℕ) (last : List ℕ) (k : ℕ) (rest : List ℕ) → Alike F last k → T (eachOf (takes F) ls) → T (above k ls)
       → drop at s ≡ encodedLiterals ls ++ rest → membersAt F s at last (length ls) ≡ accepted ls
   unfolding membersAt encodedLiterals
   members-complete [] at last k rest alike t u e = refl
@@ -96,14 +95,14 @@ module _ (F : Limits) (s : List ℕ) (bytes : Bytes s) where
       members-right F s at last (length ls) l valid higher
       ∙ ap (λ (x : Result (List Literal)). andThen x (λ ms. accepted (l ∷ ms)))
       (members-complete ls (at + 5) (take 5 (drop at s)) (keyAt (drop at s)) rest (alike-next F (drop at s) (bytes-drop at s bytes) five)
-      (second (takes F l) (all (takes F) ls) t) (subst (λ (i : ℕ). T (above i ls)) (sym same) (second (ltb k (key l)) (above (key l) ls) u)) behind)
+      (second (takes F l) (eachOf (takes F) ls) t) (subst (λ (i : ℕ). T (above i ls)) (sym same) (second (ltb k (key l)) (above (key l) ls) u)) behind)
       ∙ accepted-and-then ls (λ ms. accepted (l ∷ ms))
     where
       here : drop at s ≡ encoded l ++ (encodedLiterals ls ++ rest)
       here = e ∙ append-assoc (encoded l) (encodedLiterals ls) rest
 
       valid : decoded F (drop at s) ≡ Valid l
-      valid = ap (decoded F) here ∙ decoded-encoded F l (encodedLiterals ls ++ rest) (first (takes F l) (all (takes F) ls) t)
+      valid = ap (decoded F) here ∙ decoded-encoded F l (encodedLiterals ls ++ rest) (first (takes F l) (eachOf (takes F) ls) t)
 
       five : 5 ≤ length (drop at s)
       five = omega (arith, ap length here, length-append (encoded l) (encodedLiterals ls ++ rest), length-encoded l)

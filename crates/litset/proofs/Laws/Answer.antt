@@ -16,49 +16,50 @@ use Rattle.record.specs.declared.Run.{Run}
 use Rattle.record.specs.Refusal.{refusal}
 use Rattle.record.specs.Result.{Result, accepted, refused}
 use Rattle.record.specs.Code.{runOf}
+use Rattle.record.specs.Reading.{readingOf}
 use Rattle.record.proofs.Laws.Result.{refuse-if-true, refuse-if-false}
 use Rattle.record.proofs.Laws.Sound.{literals-sound}
-use Rattle.litset.specs.declared.SetReading.{SetReading}
-use Rattle.litset.specs.Reading.{membersAt, setShape, parsedSet, setReadingOf, setReading}
-use Rattle.litset.specs.Code.{membersAbove}
+use Rattle.record.specs.declared.Reading.{Reading}
+use Rattle.litset.specs.Reading.{membersAt, setShape, parsedSet}
+use Rattle.litset.specs.Code.{setReading, membersAbove}
 use Rattle.litset.proofs.Laws.Shape.{shaped}
 use Rattle.litset.proofs.Laws.Order.{alike-first, above-members}
 use Rattle.litset.proofs.Laws.Above.{members-sound}
 
 -- a run's answer is the set's
-run-refused : (r : Result (List Literal)) (x : Refusal) → runOf r ≡ Run.Refused x → setReadingOf r ≡ SetReading.Refused x
-unfolding runOf setReadingOf
+run-refused : (r : Result (List Literal)) (x : Refusal) → runOf r ≡ Run.Refused x → readingOf r ≡ Reading.Refused x
+unfolding runOf readingOf
 run-refused (accepted ls) x e = absurd (let z : _≡_ {A = ℕ} 0 1 = cc in omega arith)
-run-refused (refused y) x e = ap SetReading.Refused (same e)
+run-refused (refused y) x e = ap Reading.Refused (same e)
   where
     same : Run.Refused y ≡ Run.Refused x → y ≡ x
     same q = cc
 
-run-right : (r : Result (List Literal)) (n : ℕ) → runOf r ≡ Run.Right → ((ls : List Literal) → r ≡ accepted ls → length ls ≡ n) → setReadingOf r ≡ SetReading.Literals n
-unfolding runOf setReadingOf
-run-right (accepted ls) n e h = ap SetReading.Literals (h ls refl)
+run-right : (r : Result (List Literal)) (n : ℕ) → runOf r ≡ Run.Right → ((ls : List Literal) → r ≡ accepted ls → length ls ≡ n) → readingOf r ≡ Reading.Count n
+unfolding runOf readingOf
+run-right (accepted ls) n e h = ap Reading.Count (h ls refl)
 run-right (refused x) n e h = absurd (let z : _≡_ {A = ℕ} 0 1 = cc in omega arith)
 
 module _ (F : Limits) (most : ℕ) (s : List ℕ) where
   -- 10
-  pub answer-wrong : setShape s ≡ false → setReading F most s ≡ SetReading.Refused (refusal SetWrong 0)
-  unfolding setReading parsedSet setReadingOf
-  answer-wrong e = ap setReadingOf (refuse-if-true (not (setShape s)) (refusal SetWrong 0) _ (ap not e))
+  pub answer-wrong : setShape s ≡ false → setReading F most s ≡ Reading.Refused (refusal SetWrong 0)
+  unfolding setReading parsedSet readingOf
+  answer-wrong e = ap readingOf (refuse-if-true (not (setShape s)) (refusal SetWrong 0) _ (ap not e))
 
   -- 12
-  pub answer-large : setShape s ≡ true → most < numberAt s 2 → setReading F most s ≡ SetReading.Refused (refusal SetTooLarge 0)
-  unfolding setReading parsedSet setReadingOf
+  pub answer-large : setShape s ≡ true → most < numberAt s 2 → setReading F most s ≡ Reading.Refused (refusal SetTooLarge 0)
+  unfolding setReading parsedSet readingOf
   answer-large e h =
-      ap setReadingOf
+      ap readingOf
       (refuse-if-false (not (setShape s)) (refusal SetWrong 0) _ (ap not e)
       ∙ refuse-if-true (ltb most (numberAt s 2)) (refusal SetTooLarge 0) _ (lt-ltb most (numberAt s 2) h))
 
   module _ (e : setShape s ≡ true) (h : numberAt s 2 ≤ most) (bytes : Bytes s) where
     -- neither: the literals decide
-    answer-members : setReading F most s ≡ setReadingOf (membersAt F s 4 [] (numberAt s 2))
+    answer-members : setReading F most s ≡ readingOf (membersAt F s 4 [] (numberAt s 2))
     unfolding setReading parsedSet
     answer-members =
-        ap setReadingOf
+        ap readingOf
         (refuse-if-false (not (setShape s)) (refusal SetWrong 0) _ (ap not e)
         ∙ refuse-if-false (ltb most (numberAt s 2)) (refusal SetTooLarge 0) _ (le-ltb most (numberAt s 2) h))
 
@@ -67,11 +68,11 @@ module _ (F : Limits) (most : ℕ) (s : List ℕ) where
     way = above-members F s bytes (numberAt s 2) 4 [] 0 (alike-first F) (omega (arith, shaped s e .whole))
 
     -- 11
-    pub answer-member : (x : Refusal) → membersAbove F s 4 0 (numberAt s 2) ≡ Run.Refused x → setReading F most s ≡ SetReading.Refused x
+    pub answer-member : (x : Refusal) → membersAbove F s 4 0 (numberAt s 2) ≡ Run.Refused x → setReading F most s ≡ Reading.Refused x
     answer-member x r = answer-members ∙ run-refused (membersAt F s 4 [] (numberAt s 2)) x (sym way ∙ r)
 
     -- accepted
-    pub answer-right : membersAbove F s 4 0 (numberAt s 2) ≡ Run.Right → setReading F most s ≡ SetReading.Literals (numberAt s 2)
+    pub answer-right : membersAbove F s 4 0 (numberAt s 2) ≡ Run.Right → setReading F most s ≡ Reading.Count (numberAt s 2)
     answer-right r = answer-members ∙ run-right (membersAt F s 4 [] (numberAt s 2)) (numberAt s 2) (sym way ∙ r) count
       where
         count : (ls : List Literal) → membersAt F s 4 [] (numberAt s 2) ≡ accepted ls → length ls ≡ numberAt s 2

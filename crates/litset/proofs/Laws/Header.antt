@@ -12,7 +12,7 @@ use Rattle.buffer.proofs.Laws.Next.{write-behind}
 use Rattle.literal.specs.declared.Literal.{Literal}
 use Rattle.record.specs.Layout.{colon, encodedLiterals}
 use Rattle.litset.specs.Layout.{encodedSet}
-use Rattle.litset.specs.Header.{setHeader}
+use Rattle.litset.specs.Code.{setHeader}
 
 -- two stores and a number behind them
 pub set-header-stores : (d e : List ℕ) (n : ℕ) → 4 ≤ length d → e ≡ write (set (set d 0 0x41) 1 colon) 2 (twoBytes n) → e ≡ write d 0 (setHeader n)

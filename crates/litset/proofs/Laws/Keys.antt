@@ -13,17 +13,18 @@ use Rattle.buffer.proofs.Laws.Bytes.{bytes-drop}
 use Rattle.literal.specs.declared.Limits.{Limits}
 use Rattle.literal.specs.declared.Literal.{Literal}
 use Rattle.literal.specs.Literal.{tagField, atomField, encoded}
-use Rattle.literal.specs.Order.{key, keyAt}
+use Rattle.literal.specs.Order.{key}
+use Rattle.literal.specs.Code.{keyAt}
 use Rattle.literal.proofs.Laws.Literal.{length-encoded}
 use Rattle.literal.proofs.Laws.Order.{keyAt-encoded, key-injective}
-use Rattle.semantics.specs.Set.{any, sameLiteral, setOf}
+use Rattle.semantics.specs.Set.{someOf, sameLiteral, setOf}
 use Rattle.semantics.proofs.Laws.Tests.{first, second, along, same-test, any-agree}
 use Rattle.semantics.proofs.Laws.Set.{same-literal-eq, same-literal-refl}
 use Rattle.record.specs.Result.{accepted}
 use Rattle.record.specs.Layout.{encodedLiterals}
 use Rattle.litset.specs.Layout.{encodedSet}
 use Rattle.litset.specs.Reading.{parsedSet}
-use Rattle.litset.specs.Keys.{Ascends, hasKeyFrom, hasKey}
+use Rattle.litset.specs.Code.{Ascends, hasKeyFrom, hasKey}
 use Rattle.litset.proofs.Laws.Above.{above, ascending-above}
 use Rattle.litset.proofs.Laws.Reading.{keeps-set-ascending, keeps-set-taken, parsed-set-sound, length-parsed-set}
 use Rattle.litset.proofs.Laws.Search.{number-first, number-next}
@@ -78,7 +79,7 @@ module _ (s : List ℕ) where
       )
 
   -- a key among those of the literals
-  has-key-any : (k : ℕ) (ls : List Literal) (at : ℕ) → drop at s ≡ encodedLiterals ls → hasKeyFrom s at (length ls) k ≡ any (λ m. eqb (key m) k) ls
+  has-key-any : (k : ℕ) (ls : List Literal) (at : ℕ) → drop at s ≡ encodedLiterals ls → hasKeyFrom s at (length ls) k ≡ someOf (λ m. eqb (key m) k) ls
   unfolding hasKeyFrom
   has-key-any k [] at e = refl
   has-key-any k (l ∷ ls) at e =

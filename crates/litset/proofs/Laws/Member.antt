@@ -9,12 +9,12 @@ use lib.ListN.{length, drop}
 use lib.Seq.{drop-drop, drop-at}
 use Rattle.literal.specs.declared.Literal.{Literal}
 use Rattle.literal.specs.Literal.{encoded}
-use Rattle.literal.specs.Order.{keyAt}
+use Rattle.literal.specs.Code.{keyAt}
 use Rattle.literal.proofs.Laws.Literal.{length-encoded}
 use Rattle.literal.proofs.Laws.Order.{keyAt-encoded}
-use Rattle.semantics.specs.Set.{any}
+use Rattle.semantics.specs.Set.{someOf}
 use Rattle.record.specs.Layout.{encodedLiterals}
-use Rattle.litset.specs.Keys.{hasKey, keySet, anyKey}
+use Rattle.litset.specs.Code.{hasKey, keySet, anyKey}
 
 module _ (s : List ℕ) (n : ℕ) (t : List ℕ) where
   -- the first is in the set
@@ -39,7 +39,7 @@ module _ (s : List ℕ) (n : ℕ) (t : List ℕ) where
   any-key-none (suc m) at h = absurd (omega arith)
 
   -- of literals that stand in a slice, one has a key of the set where one is in the set of keys
-  pub any-key-literals : (ls : List Literal) (at : ℕ) (rest : List ℕ) → drop at t ≡ encodedLiterals ls ++ rest → anyKey s n (length ls) t at ≡ any (keySet s n) ls
+  pub any-key-literals : (ls : List Literal) (at : ℕ) (rest : List ℕ) → drop at t ≡ encodedLiterals ls ++ rest → anyKey s n (length ls) t at ≡ someOf (keySet s n) ls
   unfolding anyKey encodedLiterals
   any-key-literals [] at rest e = refl
   any-key-literals (l ∷ ls) at rest e =

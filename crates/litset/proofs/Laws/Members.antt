@@ -8,8 +8,8 @@ use lib.Dec.{ltb}
 use lib.ListN.{drop}
 use borrow.Author.Tests.{lt-ltb, le-ltb}
 use Rattle.literal.specs.declared.Limits.{Limits}
-use Rattle.literal.specs.Literal.{decoded, isValid}
-use Rattle.literal.specs.Order.{keyAt}
+use Rattle.literal.specs.Literal.{decoded}
+use Rattle.literal.specs.Code.{isValid, keyAt}
 use Rattle.record.specs.declared.Reason.the-variants.{MemberWrong}
 use Rattle.record.specs.declared.Run.{Run}
 use Rattle.record.specs.Refusal.{refusal}

@@ -13,10 +13,9 @@ use Rattle.buffer.specs.Bytes.{Bytes}
 use Rattle.buffer.proofs.Laws.Bytes.{bytes-drop}
 use Rattle.literal.specs.declared.Limits.{Limits}
 use Rattle.literal.specs.declared.Literal.{Literal}
-use Rattle.literal.specs.declared.Decoded.{Decoded}
-use Rattle.literal.specs.declared.Decoded.the-variants.{Valid, Wrong}
-use Rattle.literal.specs.Literal.{decoded, isValid}
-use Rattle.literal.specs.Order.{bytesBefore, keyAt}
+use Rattle.literal.specs.Literal.{Decoded, Valid, Wrong, decoded}
+use Rattle.literal.specs.Code.{isValid, keyAt}
+use Rattle.literal.specs.Order.{bytesBefore}
 use Rattle.literal.proofs.Laws.Literal.{encoded-decoded}
 use Rattle.literal.proofs.Laws.Order.{bytesBefore-keyAt, keyAt-decoded, key-positive}
 use Rattle.record.specs.declared.Reason.the-variants.{MemberWrong}

@@ -9,8 +9,8 @@ use borrow.Author.Tests.{ltb-false}
 use Rattle.buffer.specs.Bytes.{numberAt}
 use Rattle.literal.specs.declared.Limits.{Limits}
 use Rattle.literal.specs.declared.Literal.{Literal}
-use Rattle.literal.specs.declared.Decoded.{Decoded}
-use Rattle.literal.specs.declared.Decoded.the-variants.{Valid, Wrong}
+use Rattle.literal.specs.Literal.{Decoded}
+use Rattle.literal.specs.Literal.{Valid, Wrong}
 use Rattle.literal.specs.Literal.{decoded}
 use Rattle.literal.specs.Order.{bytesBefore}
 use Rattle.record.specs.declared.Reason.the-variants.{MemberWrong}

@@ -16,7 +16,7 @@ use Rattle.buffer.proofs.Laws.Bytes.{number-twoBytes, twoBytes-number}
 use Rattle.literal.specs.declared.Limits.{Limits}
 use Rattle.literal.specs.declared.Literal.{Literal}
 use Rattle.literal.specs.Literal.{takes}
-use Rattle.semantics.specs.Set.{all}
+use Rattle.semantics.specs.Set.{eachOf}
 use Rattle.semantics.proofs.Laws.Tests.{both, first, second, along}
 use Rattle.record.specs.declared.Reason.the-variants.{SetWrong, SetTooLarge}
 use Rattle.record.specs.Refusal.{refusal}
@@ -33,32 +33,32 @@ use Rattle.litset.proofs.Laws.Above.{ascending-above, members-sound, me
 
 module _ (F : Limits) (most : ℕ) (ls : List Literal) where
   -- the parts of a set's limits
-  pub keeps-set : T (ascending ls) → T (all (takes F) ls) → length ls ≤ most → length ls < 65536 → T (keepsSet F most ls)
+  pub keeps-set : T (ascending ls) → T (eachOf (takes F) ls) → length ls ≤ most → length ls < 65536 → T (keepsSet F most ls)
   unfolding keepsSet
   keeps-set a t m c =
-      both (ascending ls) (all (takes F) ls && (leb (length ls) most && ltb (length ls) 65536)) a
-      (both (all (takes F) ls) (leb (length ls) most && ltb (length ls) 65536) t
+      both (ascending ls) (eachOf (takes F) ls && (leb (length ls) most && ltb (length ls) 65536)) a
+      (both (eachOf (takes F) ls) (leb (length ls) most && ltb (length ls) 65536) t
       (both (leb (length ls) most) (ltb (length ls) 65536) (le→leb (length ls) most m) (lt→ltb (length ls) 65536 c)))
 
   module _ (k : T (keepsSet F most ls)) where
     pub keeps-set-ascending : T (ascending ls)
     unfolding keepsSet
-    keeps-set-ascending = first (ascending ls) (all (takes F) ls && (leb (length ls) most && ltb (length ls) 65536)) k
+    keeps-set-ascending = first (ascending ls) (eachOf (takes F) ls && (leb (length ls) most && ltb (length ls) 65536)) k
 
-    counts : T (all (takes F) ls && (leb (length ls) most && ltb (length ls) 65536))
+    counts : T (eachOf (takes F) ls && (leb (length ls) most && ltb (length ls) 65536))
     unfolding keepsSet
-    counts = second (ascending ls) (all (takes F) ls && (leb (length ls) most && ltb (length ls) 65536)) k
+    counts = second (ascending ls) (eachOf (takes F) ls && (leb (length ls) most && ltb (length ls) 65536)) k
 
-    pub keeps-set-taken : T (all (takes F) ls)
-    keeps-set-taken = first (all (takes F) ls) (leb (length ls) most && ltb (length ls) 65536) counts
+    pub keeps-set-taken : T (eachOf (takes F) ls)
+    keeps-set-taken = first (eachOf (takes F) ls) (leb (length ls) most && ltb (length ls) 65536) counts
 
     pub keeps-set-most : length ls ≤ most
     keeps-set-most =
-        leb→le (length ls) most (first (leb (length ls) most) (ltb (length ls) 65536) (second (all (takes F) ls) (leb (length ls) most && ltb (length ls) 65536) counts))
+        leb→le (length ls) most (first (leb (length ls) most) (ltb (length ls) 65536) (second (eachOf (takes F) ls) (leb (length ls) most && ltb (length ls) 65536) counts))
 
     pub keeps-set-count : length ls < 65536
     keeps-set-count =
-        ltb→lt (length ls) 65536 (second (leb (length ls) most) (ltb (length ls) 65536) (second (all (takes F) ls) (leb (length ls) most && ltb (length ls) 65536) counts))
+        ltb→lt (length ls) 65536 (second (leb (length ls) most) (ltb (length ls) 65536) (second (eachOf (takes F) ls) (leb (length ls) most && ltb (length ls) 65536) counts))
 
 -- a list's first four elements
 take-four : (s : List ℕ) → 4 ≤ length s → take 4 s ≡ getD s 0 0 ∷ (getD s 1 0 ∷ (getD s 2 0 ∷ (getD s 3 0 ∷ [])))

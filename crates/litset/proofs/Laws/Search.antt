@@ -13,9 +13,9 @@ use lib.ListN.{drop}
 use borrow.Author.Tests.{eq-eqb, ne-eqb, eqb-true, eqb-false, ltb-true, ltb-false, leb-true, leb-false}
 use Rattle.buffer.specs.Bytes.{Bytes}
 use Rattle.buffer.proofs.Laws.Bytes.{bytes-drop}
-use Rattle.literal.specs.Order.{keyAt, keyRoom}
+use Rattle.literal.specs.Code.{keyAt, keyRoom}
 use Rattle.literal.proofs.Laws.Order.{keyAt-lt}
-use Rattle.litset.specs.Keys.{memberKey, Ascends, hasKeyFrom, hasKey, Place}
+use Rattle.litset.specs.Code.{memberKey, Ascends, hasKeyFrom, hasKey, Place}
 
 -- a literal's key is at most those of the literals from it on
 ascends-le : (s : List ℕ) (n : ℕ) → Ascends s n → (i j : ℕ) → i ≤ j → j < n → memberKey s i ≤ memberKey s j

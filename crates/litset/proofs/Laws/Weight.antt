@@ -7,7 +7,7 @@ use mathlib.Core.Path.{_≡_, refl, ap}
 use mathlib.Core.Bool.{Bool, true, false, cond}
 use lib.Dec.{leb}
 use borrow.Author.Tests.{leb-true, leb-false}
-use Rattle.literal.specs.Order.{keyRoom}
+use Rattle.literal.specs.Code.{keyRoom}
 
 -- 1 or 0 times a half is no more than the half
 pub weight-le : (key wanted w half : ℕ) → w ≡ cond (leb key wanted) 1 0 → w * half ≤ half

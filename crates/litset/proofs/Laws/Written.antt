@@ -14,7 +14,7 @@ use Rattle.literal.specs.declared.Literal.{Literal}
 use Rattle.literal.specs.declared.Literal.the-variants.{Signed, Defeated, Derived, RuleDefeated}
 use Rattle.literal.specs.Literal.{atomNumber, tagField, atomField, encoded, inRange, ranged, takes}
 use Rattle.literal.proofs.Laws.Literal.{bytes-encoded, takes-ranged}
-use Rattle.semantics.specs.Set.{all}
+use Rattle.semantics.specs.Set.{eachOf}
 use Rattle.semantics.proofs.Laws.Tests.{first, second}
 use Rattle.record.specs.Result.{accepted}
 use Rattle.record.specs.Layout.{colon, encodedLiterals}
@@ -46,12 +46,12 @@ module _ (F : Limits) (narrow : TwoBytes F) where
   atom-fits (Derived t a) r = ranged-below (F .atoms) (atomNumber a) (narrow .atoms) (second (inRange (F .tags) (t .0)) (inRange (F .atoms) (atomNumber a)) r)
   atom-fits (RuleDefeated n) r = ranged-below (F .numbers) (n .0) (narrow .numbers) r
 
-  bytes-literals : (ls : List Literal) → T (all (takes F) ls) → Bytes (encodedLiterals ls)
+  bytes-literals : (ls : List Literal) → T (eachOf (takes F) ls) → Bytes (encodedLiterals ls)
   unfolding encodedLiterals
   bytes-literals [] t = bytes-nil
   bytes-literals (l ∷ ls) t =
-      let r = takes-ranged F l (first (takes F l) (all (takes F) ls) t) in
-      bytes-append (encoded l) (encodedLiterals ls) (bytes-encoded l (tag-fits l r) (atom-fits l r)) (bytes-literals ls (second (takes F l) (all (takes F) ls) t))
+      let r = takes-ranged F l (first (takes F l) (eachOf (takes F) ls) t) in
+      bytes-append (encoded l) (encodedLiterals ls) (bytes-encoded l (tag-fits l r) (atom-fits l r)) (bytes-literals ls (second (takes F l) (eachOf (takes F) ls) t))
 
   module _ (most : ℕ) (ls : List Literal) (k : T (keepsSet F most ls)) where
     bytes-set : Bytes (encodedSet ls)

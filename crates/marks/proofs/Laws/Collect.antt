@@ -9,15 +9,15 @@ use mathlib.Core.List.{List, [], _∷_, _++_, map, map-append}
 use lib.Dec.{T, leb, leb→le}
 use lib.ListN.{length, getD, drop, length-map}
 use Rattle.literal.specs.Order.{key}
-use Rattle.semantics.specs.Set.{LiteralSet, all}
+use Rattle.semantics.specs.Set.{LiteralSet, eachOf}
 use Rattle.semantics.specs.Rule.{Rule, strict, defeasible, head, Program}
 use Rattle.semantics.proofs.Laws.Tests.{first, second}
-use Rattle.record.specs.Size.{recordSize}
-use Rattle.emit.specs.Starts.{Starts, Stands}
+use Rattle.record.specs.Code.{recordSize}
+use Rattle.emit.specs.Code.{Starts}
+use Rattle.emit.proofs.Laws.Stands.{Stands, More, stands-open, stands-end, stands-more, stands-start}
 use Rattle.emit.proofs.Laws.Fields.{strict-fields, defeasible-fields}
-use Rattle.emit.proofs.Laws.Stands.{More, stands-open, stands-end, stands-more, stands-start}
 use Rattle.marks.specs.Marks.{ruleMarks, marksFrom}
-use Rattle.marks.specs.Collect.{Gained, Marking}
+use Rattle.marks.specs.Code.{Gained, Marking}
 use Rattle.marks.proofs.Laws.Gained.{Gaining, gaining-start, gaining-next, gaining-end}
 use Rattle.marks.proofs.Laws.Count.{length-marks}
 
@@ -32,7 +32,7 @@ pub record Left (s : List ℕ) (u : LiteralSet) (goal d e : List ℕ) (heads at 
   pub rules : Program
   pub counted : ℕ
   pub bytes : Stands s at rules counted
-  pub few : T (all (λ r. leb (length (head r)) heads) rules)
+  pub few : T (eachOf (λ r. leb (length (head r)) heads) rules)
   pub room : n + length rules * heads ≤ length e
   pub numbers : number + length rules < 65536
   pub gaining : Gaining goal d e 0 n (map key (marksFrom number rules u))
@@ -67,11 +67,11 @@ module _ (s : List ℕ) (u : LiteralSet) (goal d e : List ℕ) (heads at number 
   left-end l c = gaining-end (l .gaining) (ap (λ (p : Program). map key (marksFrom number p u)) (stands-end s at (l .rules) (l .counted) (l .bytes) c) ∙ marks-nil u number)
 
   -- a rule's record, and what is left behind it
-  next-rule : 1 ≤ heads → (p : Program) (m : ℕ) (w : More s at p m) → T (all (λ r. leb (length (head r)) heads) (w .the-rule ∷ w .behind)) → n + length (w .the-rule ∷ w .behind) * heads ≤ length e
+  next-rule : 1 ≤ heads → (p : Program) (m : ℕ) (w : More s at p m) → T (eachOf (λ r. leb (length (head r)) heads) (w .the-rule ∷ w .behind)) → n + length (w .the-rule ∷ w .behind) * heads ≤ length e
       → number + length (w .the-rule ∷ w .behind) < 65536 → Gaining goal d e 0 n (map key (marksFrom number (w .the-rule ∷ w .behind) u)) → Next s u goal d e heads at number n
   next-rule some p m w few room numbers gaining =
       let r = w .the-rule in
-      let most = leb→le (length (head r)) heads (first (leb (length (head r)) heads) (all (λ q. leb (length (head q)) heads) (w .behind)) few) in
+      let most = leb→le (length (head r)) heads (first (leb (length (head r)) heads) (eachOf (λ q. leb (length (head q)) heads) (w .behind)) few) in
       let long : n + (length (w .behind) * heads + heads) ≤ length e = omega (arith, suc-mul (length (w .behind)) heads) in
       record {
         the-rule = r;
@@ -88,7 +88,7 @@ module _ (s : List ℕ) (u : LiteralSet) (goal d e : List ℕ) (heads at number 
                 rules = w .behind;
                 counted = m;
                 bytes = w .next;
-                few = second (leb (length (head r)) heads) (all (λ q. leb (length (head q)) heads) (w .behind)) few;
+                few = second (leb (length (head r)) heads) (eachOf (λ q. leb (length (head q)) heads) (w .behind)) few;
                 room = omega (arith, g .same);
                 numbers = omega arith;
                 gaining = gaining-next (map key (ruleMarks number r u)) gaining (subst (λ (k : ℕ). Gained e f k q (map key (ruleMarks number r u))) (sym (zero-add n)) g) (marks-rule u number r (w .behind));
@@ -100,7 +100,7 @@ module _ (s : List ℕ) (u : LiteralSet) (goal d e : List ℕ) (heads at number 
   pub left-next : 1 ≤ heads → Left s u goal d e heads at number n → (getD s at 0 ≡ 0x45 → ⊥) → Next s u goal d e heads at number n
   left-next some l c =
       let w = stands-more s at (l .rules) (l .counted) (l .bytes) c in
-      let v = subst (λ (p : Program). T (all (λ r. leb (length (head r)) heads) p) × (n + length p * heads ≤ length e) × (number + length p < 65536) × Gaining goal d e 0 n (map key (marksFrom number p u))) (w .same) (l .few, l .room, l .numbers, l .gaining) in
+      let v = subst (λ (p : Program). T (eachOf (λ r. leb (length (head r)) heads) p) × (n + length p * heads ≤ length e) × (number + length p < 65536) × Gaining goal d e 0 n (map key (marksFrom number p u))) (w .same) (l .few, l .room, l .numbers, l .gaining) in
       next-rule some (l .rules) (l .counted) w (v .0) (v .1) (v .2) (v .3)
 
 -- the pass, wherever it is: for each program that s holds, the rest of its marks is left

@@ -12,7 +12,7 @@ use lib.ListN.{length, length-append, length-map}
 use Rattle.literal.specs.declared.Tag.{Tag}
 use Rattle.literal.specs.declared.SignedAtom.{SignedAtom}
 use Rattle.literal.specs.declared.Literal.the-variants.{Signed, Defeated, Derived}
-use Rattle.semantics.specs.Set.{LiteralSet, all}
+use Rattle.semantics.specs.Set.{LiteralSet, eachOf}
 use Rattle.semantics.specs.Rule.{Rule, strict, defeasible, head, Program}
 use Rattle.semantics.proofs.Laws.Tests.{first, second}
 use Rattle.marks.specs.Marks.{derivedMarks, ruleMarks, marksFrom}
@@ -32,17 +32,17 @@ length-derived t (a ∷ h) s = go (s (Signed a) && not (s (Defeated t a))) (leng
 pub length-marks : (n : ℕ) (r : Rule) (s : LiteralSet) (most : ℕ) → 1 ≤ most → length (head r) ≤ most → length (ruleMarks n r s) ≤ most
 unfolding ruleMarks head
 length-marks n (strict h b c) s most one k = omega arith
-length-marks n (defeasible t h b c) s most one k = go (all (λ a. s (Defeated t a)) h) refl
+length-marks n (defeasible t h b c) s most one k = go (eachOf (λ a. s (Defeated t a)) h) refl
   where
-    go : (d : Bool) → all (λ a. s (Defeated t a)) h ≡ d → length (ruleMarks n (defeasible t h b c) s) ≤ most
+    go : (d : Bool) → eachOf (λ a. s (Defeated t a)) h ≡ d → length (ruleMarks n (defeasible t h b c) s) ≤ most
     go true e = omega (arith, ap length (marks-defeated s n t h b c e))
     go false e = omega (arith, ap length (marks-open s n t h b c e), length-derived t h s, length-map h Signed)
 
 -- a program adds no more than its rules times what each has
-pub length-program : (s : LiteralSet) (most : ℕ) → 1 ≤ most → (n : ℕ) (p : Program) → T (all (λ r. leb (length (head r)) most) p) → length (marksFrom n p s) ≤ length p * most
+pub length-program : (s : LiteralSet) (most : ℕ) → 1 ≤ most → (n : ℕ) (p : Program) → T (eachOf (λ r. leb (length (head r)) most) p) → length (marksFrom n p s) ≤ length p * most
 unfolding marksFrom
 length-program s most one n [] k = omega arith
 length-program s most one n (r ∷ p) k =
-    let few = leb→le (length (head r)) most (first (leb (length (head r)) most) (all (λ q. leb (length (head q)) most) p) k) in
-    let rest = length-program s most one (n + 1) p (second (leb (length (head r)) most) (all (λ q. leb (length (head q)) most) p) k) in
+    let few = leb→le (length (head r)) most (first (leb (length (head r)) most) (eachOf (λ q. leb (length (head q)) most) p) k) in
+    let rest = length-program s most one (n + 1) p (second (leb (length (head r)) most) (eachOf (λ q. leb (length (head q)) most) p) k) in
     omega (arith, length-append (ruleMarks n r s) (marksFrom (n + 1) p s), length-marks n r s most one few, rest, suc-mul (length p) most)

@@ -8,7 +8,7 @@ use Rattle.literal.specs.declared.Tag.{Tag}
 use Rattle.literal.specs.declared.SignedAtom.{SignedAtom}
 use Rattle.literal.specs.declared.Literal.{Literal}
 use Rattle.literal.specs.declared.Literal.the-variants.{Signed, Defeated, Derived, RuleDefeated}
-use Rattle.semantics.specs.Set.{LiteralSet, any, sameTag, sameSigned, sameLiteral, setOf}
+use Rattle.semantics.specs.Set.{LiteralSet, someOf, sameTag, sameSigned, sameLiteral, setOf}
 use Rattle.semantics.proofs.Laws.Set.{same-tag-eq, same-signed-eq}
 use Rattle.marks.specs.Marks.{derivedMarks}
 
@@ -31,13 +31,13 @@ mark-first l k ls true = refl
 mark-first l k ls false = refl
 
 -- the derivation marks of options
-pub in-derived : (s : LiteralSet) (t u : Tag) (a : SignedAtom) (h : List SignedAtom) → setOf (derivedMarks u h s) (Derived t a) ≡ (sameTag t u && any (sameSigned a) h && derives s t a)
+pub in-derived : (s : LiteralSet) (t u : Tag) (a : SignedAtom) (h : List SignedAtom) → setOf (derivedMarks u h s) (Derived t a) ≡ (sameTag t u && someOf (sameSigned a) h && derives s t a)
 unfolding derivedMarks
 in-derived s t u a [] = rw (and-false (sameTag t u))
 in-derived s t u a (b ∷ h) =
     mark-first (Derived t a) (Derived u b) (derivedMarks u h s) (derives s u b)
     ∙ ap (λ (z : Bool). cond (derives s u b) (sameTag t u && sameSigned a b) false || z) (in-derived s t u a h)
-    ∙ option-more (sameTag t u) (sameSigned a b) (any (sameSigned a) h) (derives s t a) (derives s u b)
+    ∙ option-more (sameTag t u) (sameSigned a b) (someOf (sameSigned a) h) (derives s t a) (derives s u b)
     (λ g e. ap₂ (derives s) (sym (same-tag-eq t u (rw g tt))) (sym (same-signed-eq a b (rw e tt))))
 
 -- no other literal is one of them

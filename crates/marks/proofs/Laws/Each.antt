@@ -12,7 +12,7 @@ use Rattle.literal.specs.declared.Tag.{Tag}
 use Rattle.literal.specs.declared.SignedAtom.{SignedAtom}
 use Rattle.literal.specs.declared.Literal.{Literal}
 use Rattle.literal.specs.declared.Literal.the-variants.{Signed, Defeated, Derived}
-use Rattle.semantics.specs.Set.{LiteralSet, all}
+use Rattle.semantics.specs.Set.{LiteralSet, eachOf}
 use Rattle.semantics.specs.Rule.{Rule, strict, defeasible, Program}
 use Rattle.semantics.specs.Translation.{ruleDefeated}
 use Rattle.semantics.specs.Extension.{defeatedRule, sourceKind}
@@ -25,9 +25,9 @@ Each Q [] = Unit
 Each Q (l ∷ ls) = Q l × Each Q ls
 
 -- a test that each passes
-pub each-all : (f : Literal → Bool) (ls : List Literal) → Each (λ l. T (f l)) ls → T (all f ls)
+pub each-all : (f : Literal → Bool) (ls : List Literal) → Each (λ l. T (f l)) ls → T (eachOf f ls)
 each-all f [] h = tt
-each-all f (l ∷ ls) h = both (f l) (all f ls) (h .0) (each-all f ls (h .1))
+each-all f (l ∷ ls) h = both (f l) (eachOf f ls) (h .0) (each-all f ls (h .1))
 
 -- the derivation marks of a rule's options, and rule-defeated n, have it
 abbrev pub Adds : (Literal → Type 0) → ℕ → Rule → Type 0

@@ -11,7 +11,7 @@ use mathlib.Core.List.{List, [], _∷_, _++_, append-assoc, append-nil}
 use lib.ListN.{length, take, set, length-append, length-set, length-take}
 use lib.Seq.{take-set-le, take-suc-set}
 use mir.Val.{boolByte}
-use Rattle.marks.specs.Collect.{Gained}
+use Rattle.marks.specs.Code.{Gained}
 
 -- no key
 pub gained-none : (d : List ℕ) (n : ℕ) → Gained d d n 0 []

@@ -13,12 +13,12 @@ use Rattle.literal.specs.declared.Tag.{Tag}
 use Rattle.literal.specs.declared.SignedAtom.{SignedAtom}
 use Rattle.literal.specs.declared.Literal.the-variants.{Signed, Defeated, Derived}
 use Rattle.literal.specs.Order.{key}
-use Rattle.semantics.specs.Set.{LiteralSet, all}
+use Rattle.semantics.specs.Set.{LiteralSet, eachOf}
 use Rattle.semantics.proofs.Laws.Tests.{first, second}
-use Rattle.emit.specs.Options.{optionAt, optionsAt}
+use Rattle.emit.specs.Code.{optionAt, optionsAt}
 use Rattle.emit.proofs.Laws.Options.{options-first, options-none}
 use Rattle.marks.specs.Marks.{derivedMarks}
-use Rattle.marks.specs.Collect.{Gained}
+use Rattle.marks.specs.Code.{Gained}
 use Rattle.marks.proofs.Laws.Gained.{gained-kept}
 
 -- in the set and not defeated: both tests, or the first alone where it fails
@@ -75,20 +75,20 @@ module _ (t : Tag) (s : LiteralSet) where
     marks-none at n h = ap (λ (os : List SignedAtom). map key (derivedMarks t os s)) (options-none x at n h)
 
     -- all options are defeated where the first one is and those that are left are
-    pub defeated-next : (at n : ℕ) → 0 < n → s (Defeated t (optionAt x at)) ≡ true → all (λ a. s (Defeated t a)) (optionsAt x at n) ≡ all (λ a. s (Defeated t a)) (optionsAt x (at + 5) (n - 1))
-    defeated-next at n h e = ap (all (λ a. s (Defeated t a))) (options-first x at n h) ∙ ap (λ (b : Bool). b && all (λ a. s (Defeated t a)) (optionsAt x (at + 5) (n - 1))) e
+    pub defeated-next : (at n : ℕ) → 0 < n → s (Defeated t (optionAt x at)) ≡ true → eachOf (λ a. s (Defeated t a)) (optionsAt x at n) ≡ eachOf (λ a. s (Defeated t a)) (optionsAt x (at + 5) (n - 1))
+    defeated-next at n h e = ap (eachOf (λ a. s (Defeated t a))) (options-first x at n h) ∙ ap (λ (b : Bool). b && eachOf (λ a. s (Defeated t a)) (optionsAt x (at + 5) (n - 1))) e
 
-    pub defeated-not : (at n : ℕ) → 0 < n → s (Defeated t (optionAt x at)) ≡ false → all (λ a. s (Defeated t a)) (optionsAt x at n) ≡ false
-    defeated-not at n h e = ap (all (λ a. s (Defeated t a))) (options-first x at n h) ∙ ap (λ (b : Bool). b && all (λ a. s (Defeated t a)) (optionsAt x (at + 5) (n - 1))) e
+    pub defeated-not : (at n : ℕ) → 0 < n → s (Defeated t (optionAt x at)) ≡ false → eachOf (λ a. s (Defeated t a)) (optionsAt x at n) ≡ false
+    defeated-not at n h e = ap (eachOf (λ a. s (Defeated t a))) (options-first x at n h) ∙ ap (λ (b : Bool). b && eachOf (λ a. s (Defeated t a)) (optionsAt x (at + 5) (n - 1))) e
 
-    pub defeated-none : (at n : ℕ) → n ≤ 0 → all (λ a. s (Defeated t a)) (optionsAt x at n) ≡ true
-    defeated-none at n h = ap (all (λ a. s (Defeated t a))) (options-none x at n h)
+    pub defeated-none : (at n : ℕ) → n ≤ 0 → eachOf (λ a. s (Defeated t a)) (optionsAt x at n) ≡ true
+    defeated-none at n h = ap (eachOf (λ a. s (Defeated t a))) (options-none x at n h)
 
   -- where all options are defeated, none is derived
-  pub none-derived : (h : List SignedAtom) → T (all (λ a. s (Defeated t a)) h) → derivedMarks t h s ≡ []
+  pub none-derived : (h : List SignedAtom) → T (eachOf (λ a. s (Defeated t a)) h) → derivedMarks t h s ≡ []
   unfolding derivedMarks
   none-derived [] d = refl
-  none-derived (a ∷ h) d = go (s (Signed a)) (s (Defeated t a)) (first (s (Defeated t a)) (all (λ b. s (Defeated t b)) h) d) ∙ none-derived h (second (s (Defeated t a)) (all (λ b. s (Defeated t b)) h) d)
+  none-derived (a ∷ h) d = go (s (Signed a)) (s (Defeated t a)) (first (s (Defeated t a)) (eachOf (λ b. s (Defeated t b)) h) d) ∙ none-derived h (second (s (Defeated t a)) (eachOf (λ b. s (Defeated t b)) h) d)
     where
       go : (p q : Bool) → T q → cond (p && not q) (Derived t a ∷ derivedMarks t h s) (derivedMarks t h s) ≡ derivedMarks t h s
       go true true y = refl

@@ -11,7 +11,7 @@ use Rattle.literal.specs.declared.RuleNo.{RuleNo}
 use Rattle.literal.specs.declared.SignedAtom.{SignedAtom}
 use Rattle.literal.specs.declared.Literal.{Literal}
 use Rattle.literal.specs.declared.Literal.the-variants.{Signed, Defeated, Derived, RuleDefeated}
-use Rattle.semantics.specs.Set.{LiteralSet, any, sameTag, sameSigned, sameLiteral, setOf}
+use Rattle.semantics.specs.Set.{LiteralSet, someOf, sameTag, sameSigned, sameLiteral, setOf}
 use Rattle.semantics.specs.Rule.{Rule, strict, defeasible, Program}
 use Rattle.semantics.specs.Translation.{ruleDefeated}
 use Rattle.semantics.specs.Extension.{offers, defeatedRule, defeatedFrom, added}
@@ -36,7 +36,7 @@ rule-derived s n (defeasible u h b c) t a =
     let d = defeatedRule s (defeasible u h b c) in
     any-append (sameLiteral (Derived t a)) (derivedMarks u h s) (cond d (ruleDefeated n ∷ []) [])
     ∙ ap₂ _||_ (in-derived s t u a h) (in-number (Derived t a) n d)
-    ∙ or-false (sameTag t u && any (sameSigned a) h && derives s t a)
+    ∙ or-false (sameTag t u && someOf (sameSigned a) h && derives s t a)
 
 rule-other : (s : LiteralSet) (n : ℕ) (r : Rule) (l : Literal) → marked l ≡ false → setOf (ruleMarks n r s) l ≡ (sameLiteral l (ruleDefeated n) && defeatedRule s r)
 unfolding ruleMarks defeatedRule
@@ -56,12 +56,12 @@ or-and true m true = refl
 or-and true m false = and-false m
 or-and false m x = refl
 
-program-derived : (s : LiteralSet) (n : ℕ) (p : Program) (t : Tag) (a : SignedAtom) → setOf (marksFrom n p s) (Derived t a) ≡ (any (offers t a) p && derives s t a)
+program-derived : (s : LiteralSet) (n : ℕ) (p : Program) (t : Tag) (a : SignedAtom) → setOf (marksFrom n p s) (Derived t a) ≡ (someOf (offers t a) p && derives s t a)
 unfolding marksFrom
 program-derived s n [] t a = refl
 program-derived s n (r ∷ p) t a =
     any-append (sameLiteral (Derived t a)) (ruleMarks n r s) (marksFrom (n + 1) p s)
-    ∙ ap₂ _||_ (rule-derived s n r t a) (program-derived s (n + 1) p t a) ∙ or-and (offers t a r) (any (offers t a) p) (derives s t a)
+    ∙ ap₂ _||_ (rule-derived s n r t a) (program-derived s (n + 1) p t a) ∙ or-and (offers t a r) (someOf (offers t a) p) (derives s t a)
 
 program-number : (s : LiteralSet) (n : ℕ) (p : Program) (m : RuleNo) → setOf (marksFrom n p s) (RuleDefeated m) ≡ defeatedFrom n p s (m .0)
 unfolding marksFrom defeatedFrom

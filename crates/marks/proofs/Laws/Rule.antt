@@ -13,34 +13,33 @@ use Rattle.literal.specs.declared.SignedAtom.{SignedAtom}
 use Rattle.literal.specs.declared.Literal.{Literal}
 use Rattle.literal.specs.declared.Literal.the-variants.{Defeated}
 use Rattle.literal.specs.Order.{key}
-use Rattle.semantics.specs.Set.{LiteralSet, all}
+use Rattle.semantics.specs.Set.{LiteralSet, eachOf}
 use Rattle.semantics.specs.Rule.{Rule, strict, defeasible}
 use Rattle.semantics.specs.Translation.{ruleDefeated}
 use Rattle.semantics.specs.Extension.{defeatedRule}
-use Rattle.emit.specs.Starts.{Starts}
-use Rattle.emit.specs.Options.{tagAt, optionsAt}
+use Rattle.emit.specs.Code.{Starts, tagAt, optionsAt}
 use Rattle.emit.proofs.Laws.Fields.{strict-fields, defeasible-fields}
 use Rattle.emit.proofs.Laws.Options.{rule-options, rule-tag}
 use Rattle.marks.specs.Marks.{derivedMarks, ruleMarks}
-use Rattle.marks.specs.Collect.{Gained}
+use Rattle.marks.specs.Code.{Gained}
 use Rattle.marks.proofs.Laws.Gained.{gained-none, gained-one}
 use Rattle.marks.proofs.Laws.Marks.{none-derived}
 
 -- whether all options in the record that starts a part are defeated, and their derivation marks
 abbrev pub defeatedAt : LiteralSet → List ℕ → Bool
-defeatedAt s x = all (λ a. s (Defeated (tagAt x) a)) (optionsAt x 7 (getD x 4 0))
+defeatedAt s x = eachOf (λ a. s (Defeated (tagAt x) a)) (optionsAt x 7 (getD x 4 0))
 
 abbrev pub derivedAt : LiteralSet → List ℕ → List Literal
 derivedAt s x = derivedMarks (tagAt x) (optionsAt x 7 (getD x 4 0)) s
 
 module _ (s : LiteralSet) (n : ℕ) where
   -- all options are defeated: the rule's own mark alone
-  pub marks-defeated : (t : Tag) (h : List SignedAtom) (b c : List Literal) → all (λ a. s (Defeated t a)) h ≡ true → ruleMarks n (defeasible t h b c) s ≡ ruleDefeated n ∷ []
+  pub marks-defeated : (t : Tag) (h : List SignedAtom) (b c : List Literal) → eachOf (λ a. s (Defeated t a)) h ≡ true → ruleMarks n (defeasible t h b c) s ≡ ruleDefeated n ∷ []
   unfolding ruleMarks defeatedRule
   marks-defeated t h b c e = rw (none-derived t s h (subst T (sym e) tt), e)
 
   -- some are not: the derivation marks alone
-  pub marks-open : (t : Tag) (h : List SignedAtom) (b c : List Literal) → all (λ a. s (Defeated t a)) h ≡ false → ruleMarks n (defeasible t h b c) s ≡ derivedMarks t h s
+  pub marks-open : (t : Tag) (h : List SignedAtom) (b c : List Literal) → eachOf (λ a. s (Defeated t a)) h ≡ false → ruleMarks n (defeasible t h b c) s ≡ derivedMarks t h s
   unfolding ruleMarks defeatedRule
   marks-open t h b c e = rw e (append-nil (derivedMarks t h s))
 
@@ -56,7 +55,7 @@ module _ (s : LiteralSet) (n : ℕ) where
         → (r : Rule) → Starts x r → Gained d (set d m k) m 1 (map key (ruleMarks n r s))
     gained-defeated k e f is h (strict hs b c) w = absurd (omega (arith, strict-fields x hs b c w .of-letter))
     gained-defeated k e f is h (defeasible t hs b c) w =
-        let same = ap₂ (λ (u : Tag) (os : List SignedAtom). all (λ a. s (Defeated u a)) os) (rule-tag x t hs b c w) (rule-options x t hs b c w) in
+        let same = ap₂ (λ (u : Tag) (os : List SignedAtom). eachOf (λ a. s (Defeated u a)) os) (rule-tag x t hs b c w) (rule-options x t hs b c w) in
         rw (marks-defeated t hs b c (sym same ∙ f), ← is) (gained-one d m k h)
 
     -- a rule that has others
@@ -64,6 +63,6 @@ module _ (s : LiteralSet) (n : ℕ) where
         → (r : Rule) → Starts x r → Gained d e m q (map key (ruleMarks n r s))
     gained-open l f g (strict hs b c) w = absurd (omega (arith, strict-fields x hs b c w .of-letter))
     gained-open {e} {q} l f g (defeasible t hs b c) w =
-        let same = ap₂ (λ (u : Tag) (os : List SignedAtom). all (λ a. s (Defeated u a)) os) (rule-tag x t hs b c w) (rule-options x t hs b c w) in
+        let same = ap₂ (λ (u : Tag) (os : List SignedAtom). eachOf (λ a. s (Defeated u a)) os) (rule-tag x t hs b c w) (rule-options x t hs b c w) in
         let marks = ap₂ (λ (u : Tag) (os : List SignedAtom). derivedMarks u os s) (rule-tag x t hs b c w) (rule-options x t hs b c w) in
         subst (λ (ls : List Literal). Gained d e m q (map key ls)) (marks ∙ sym (marks-open t hs b c (sym same ∙ f))) g

@@ -7,7 +7,7 @@ use mathlib.Core.Path.{_≡_, refl, ap, ap₂, _∙_}
 use lib.Arith.{bin-ind, digits-mod, digits-div}
 use lib.Bits.{bitAnd, bitXor, differ, and-step, xor-step, and-comm}
 use lib.Count.{ones, ones-step}
-use Rattle.mask.specs.Mask.{Within}
+use Rattle.mask.specs.Code.{Within}
 use Rattle.mask.proofs.Laws.Part.{xor-sum}
 
 two-pos : zero < 2

@@ -10,7 +10,7 @@ use lib.Arith.{digits-mod, digits-div, bin-ind}
 use lib.Bits.{bitAnd, bitOr, bitXor, differ, and-step, or-step, xor-step}
 use lib.Dec.{T, eqb}
 use Rattle.semantics.proofs.Laws.Tests.{both, first, second, same-test, is-false, along}
-use Rattle.mask.specs.Mask.{has, Within, Apart}
+use Rattle.mask.specs.Code.{has, Within, Apart}
 
 two-pos : zero < 2
 two-pos = zero-lt-suc 1

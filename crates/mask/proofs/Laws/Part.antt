@@ -11,7 +11,7 @@ use mathlib.Core.Logic.{_⊎_, inl, inr, ⊎-elim}
 use lib.Bits.{bitAnd, bitOr, bitXor, and-self, and-comm, and-le-r, xor-add-and}
 use lib.Dec.{T}
 use Rattle.semantics.proofs.Laws.Tests.{both, first, second, left, right, either, fails, refuted, along}
-use Rattle.mask.specs.Mask.{has, Within, Apart}
+use Rattle.mask.specs.Code.{has, Within, Apart}
 use Rattle.mask.proofs.Laws.Member.{has-and, has-or, has-xor, either-one, has-ext, within-has, has-within, apart-has, has-apart}
 
 pub within-refl : (a : ℕ) → Within a a

@@ -12,7 +12,7 @@ use lib.Bits.{bitAnd, block-half, block-odd, and-mask}
 use lib.Dec.{T, eqb}
 use lib.Pow.{pow-pos, pow-lt, split, high, shr-lt, mod-pow-add, ones-lt, ones-split, lt-of-le-ones}
 use Rattle.semantics.proofs.Laws.Tests.{along}
-use Rattle.mask.specs.Mask.{has, Within, Apart}
+use Rattle.mask.specs.Code.{has, Within, Apart}
 use Rattle.mask.proofs.Laws.Member.{within-has, apart-has}
 use Rattle.mask.proofs.Laws.Part.{within-le, apart-or-not}
 use Rattle.mask.proofs.Laws.Single.{pow-single}

@@ -8,9 +8,13 @@ use mathlib.Core.Logic.{⊎-elim}
 use lib.Bits.{bitAnd, bitXor, xor-self}
 use lib.Dec.{T}
 use Rattle.semantics.proofs.Laws.Tests.{decide, both, first, second, fails, refuted, along}
-use Rattle.mask.specs.Mask.{has, Within, Apart, rest}
+use Rattle.mask.specs.Code.{has, Within, Apart}
 use Rattle.mask.proofs.Laws.Member.{has-and, within-has, has-within, apart-has, has-apart}
 use Rattle.mask.proofs.Laws.Part.{and-within-left, and-within-right, xor-within, xor-sum, has-without}
+
+-- the positions of a that are not in b
+abbrev pub rest : ℕ → ℕ → ℕ
+rest a b = bitXor a (bitAnd a b)
 
 module _ (a b : ℕ) where
   has-rest : (i : ℕ) → has (rest a b) i ≡ (has a i && not (has (bitAnd a b) i))

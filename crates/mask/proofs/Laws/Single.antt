@@ -8,7 +8,7 @@ use mathlib.Core.Logic.{_⊎_, inl, inr}
 use lib.Arith.{bin-ind}
 use lib.Bits.{bitAnd, and-step, and-self, and-le-l, and-mask, or-lt, or-disjoint}
 use lib.Pow.{pow-pos, pow-lt}
-use Rattle.mask.specs.Mask.{Within, Apart, Single, Highest}
+use Rattle.mask.specs.Code.{Within, Apart, Single, Highest}
 
 -- a number that is not 0 is odd, or twice a number that is not 0
 odd-or-even : (m : ℕ) → 0 < m → (m % 2 ≡ 1) ⊎ ((m % 2 ≡ 0) × (0 < m / 2))

@@ -5,7 +5,7 @@ use native.Mathlib.Omega.{arith}
 use mathlib.Core.Path.{_≡_, sym, ap, subst, _∙_}
 use borrow.Author.Needs.{needs}
 use lib.Count.{leadingZeros, leading-top}
-use Rattle.mask.specs.Mask.{Highest}
+use Rattle.mask.specs.Code.{Highest}
 use Rattle.mask.proofs.Laws.Place.{one-shifted}
 use Rattle.mask.proofs.Laws.Single.{pow-highest}
 use Rattle.mask.proofs.highest.Statement.{statement}

@@ -1,5 +1,5 @@
 -- Laws of measuring, one record each: what is measured so far and the part that is left come to.
--- In order: a rule's record; its length; measuring on; a part that is left; what the answer says.
+-- In order: a part that is measured; a rule's record; its length; measuring on; a part that is left; what the answer says.
 -- Assumes nothing.
 use Prim.Native.Nat.{ℕ, suc, _+_, _*_, _-_, _≤_, _<_}
 use native.Mathlib.Omega.{arith}
@@ -30,10 +30,15 @@ use Rattle.record.proofs.Laws.Layout.{length-encoded-rule}
 use Rattle.record.proofs.Laws.Steps.{rules-refused, rules-rule, rules-end}
 use Rattle.record.proofs.Laws.Program.{step-rule, step-end, step-refused}
 use Rattle.record.proofs.Laws.Sound.{EntryRule, record-sound}
-use Rattle.emit.specs.Starts.{Starts}
-use Rattle.expand.specs.Writing.{lengthAt}
-use Rattle.measure.specs.Measure.{measuredOf, measured, measuredOn}
+use Rattle.emit.specs.Code.{Starts}
+use Rattle.expand.specs.Code.{lengthAt}
+use Rattle.measure.specs.Code.{measuredOf, measured}
 use Rattle.expand.proofs.Laws.Sizes.{told}
+
+-- the rules of a part, behind n bytes that are measured
+unfoldable measuredOn : ℕ → Result Program → Written
+measuredOn n (accepted p) = Length (n + translatedLengths p)
+measuredOn n (refused x) = Refused x
 
 -- a rule's record: its rule, whose record starts the part, and its size
 pub record StepRule (F : Limits) (n : ℕ) (t : List ℕ) (size : ℕ) : Type 0 where

@@ -1,10 +1,11 @@
 -- How code builds the masks and clauses of a list's literals, and what a mask picks, one literal or one rule at a time.
--- In order: lists without repeats; a literal's position; clauses; what is picked.
+-- In order: lists without repeats, and the part of a list that a mask picks; a literal before such a list; a literal's position;
+-- clauses; what is picked.
 -- Assumes nothing.
 use Prim.Native.Nat.{ℕ, _^_, _<_}
 use native.Mathlib.Omega.{arith}
 use mathlib.Core.Path.{_≡_, refl}
-use mathlib.Core.Bool.{Bool, true, false, cond, not}
+use mathlib.Core.Bool.{Bool, true, false, cond, not, _&&_}
 use mathlib.Core.List.{List, [], _∷_, List·Memᴰ}
 use mathlib.Core.Logic.{_⊎_, inl, inr}
 use lib.Dec.{T, ltb→lt}
@@ -12,12 +13,22 @@ use lib.ListN.{length}
 use lib.Pow.{pow-pos}
 use Rattle.literal.specs.declared.Literal.{Literal}
 use Rattle.literal.specs.Order.{key, before}
-use Rattle.semantics.specs.Set.{all, sameLiteral, setOf}
+use Rattle.semantics.specs.Set.{eachOf, sameLiteral, setOf}
 use Rattle.semantics.specs.Rule.{Remainder}
 use Rattle.semantics.proofs.Laws.Tests.{both, left, right, either, refuted, is-true, is-false}
 use Rattle.semantics.proofs.Laws.Set.{mem-set-of}
-use Rattle.mask.specs.Mask.{has}
-use Rattle.narrow.specs.Picked.{distinct, picked, maskOf, masksOf, bodiesOf, headsOf}
+use Rattle.mask.specs.Code.{has}
+use Rattle.narrow.specs.Code.{maskOf, masksOf, bodiesOf, headsOf}
+
+-- no literal stands twice in the list
+unfoldable pub distinct : List Literal → Bool
+distinct [] = true
+distinct (l ∷ ls) = not (setOf ls l) && distinct ls
+
+-- the literals of a list whose positions are in x, in order
+unfoldable pub picked : ℕ → List Literal → List Literal
+picked x [] = []
+picked x (l ∷ ls) = cond (has x (length ls)) (l ∷ picked x ls) (picked x ls)
 
 -- a literal before each literal of a list without repeats is none of them
 pub distinct-below : (l : Literal) (ls : List Literal) → ((m : Literal) → List·Memᴰ m ls → T (before l m)) → T (distinct ls) → T (distinct (l ∷ ls))
@@ -48,21 +59,21 @@ mask-none (m ∷ ls) l n =
 
 -- the clauses of one rule more
 module _ (ls : List Literal) (q : Remainder) (qs : List Remainder) where
-  pub bodies-kept : T (all (setOf ls) (q .positive)) → bodiesOf ls (q ∷ qs) ≡ masksOf ls (q .positive) ∷ bodiesOf ls qs
+  pub bodies-kept : T (eachOf (setOf ls) (q .positive)) → bodiesOf ls (q ∷ qs) ≡ masksOf ls (q .positive) ∷ bodiesOf ls qs
   unfolding bodiesOf
-  bodies-kept t = rw (is-true (all (setOf ls) (q .positive)) t)
+  bodies-kept t = rw (is-true (eachOf (setOf ls) (q .positive)) t)
 
-  pub heads-kept : T (all (setOf ls) (q .positive)) → headsOf ls (q ∷ qs) ≡ masksOf ls (q .head) ∷ headsOf ls qs
+  pub heads-kept : T (eachOf (setOf ls) (q .positive)) → headsOf ls (q ∷ qs) ≡ masksOf ls (q .head) ∷ headsOf ls qs
   unfolding headsOf
-  heads-kept t = rw (is-true (all (setOf ls) (q .positive)) t)
+  heads-kept t = rw (is-true (eachOf (setOf ls) (q .positive)) t)
 
-  pub bodies-left-out : (T (all (setOf ls) (q .positive)) → ⊥) → bodiesOf ls (q ∷ qs) ≡ bodiesOf ls qs
+  pub bodies-left-out : (T (eachOf (setOf ls) (q .positive)) → ⊥) → bodiesOf ls (q ∷ qs) ≡ bodiesOf ls qs
   unfolding bodiesOf
-  bodies-left-out n = rw (is-false (all (setOf ls) (q .positive)) n)
+  bodies-left-out n = rw (is-false (eachOf (setOf ls) (q .positive)) n)
 
-  pub heads-left-out : (T (all (setOf ls) (q .positive)) → ⊥) → headsOf ls (q ∷ qs) ≡ headsOf ls qs
+  pub heads-left-out : (T (eachOf (setOf ls) (q .positive)) → ⊥) → headsOf ls (q ∷ qs) ≡ headsOf ls qs
   unfolding headsOf
-  heads-left-out n = rw (is-false (all (setOf ls) (q .positive)) n)
+  heads-left-out n = rw (is-false (eachOf (setOf ls) (q .positive)) n)
 
 -- what a mask picks of a list with one literal more
 module _ (x : ℕ) (l : Literal) (ls : List Literal) where

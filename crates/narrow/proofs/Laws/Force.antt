@@ -6,13 +6,14 @@ use mathlib.Core.Path.{_≡_, refl, sym, ap, ap₂, subst, _∙_}
 use mathlib.Core.Bool.{true, false}
 use mathlib.Core.Logic.{⊎-elim}
 use lib.Bits.{bitAnd, bitOr, bitXor, or-zero-r}
-use Rattle.mask.specs.Mask.{Within, Apart, rest, Single}
-use Rattle.mask.proofs.Laws.Part.{within-refl, within-trans, within-or-left, or-within, and-within-right, xor-within, within-xor, or-none, apart-or-not}
+use Rattle.mask.specs.Code.{Within, Apart, Single}
+use Rattle.mask.proofs.Laws.Rest.{rest, rest-none, none-rest, rest-within, rest-apart, within-rest, apart-by}
+use Rattle.mask.proofs.Laws.Part.{within-refl, within-trans, within-or-left, within-or-right, or-within, and-within-left, and-within-right, apart-sym, within-apart, xor-within, xor-apart, within-xor, or-none, apart-or-not}
 use Rattle.mask.proofs.Laws.Single.{apart-single}
-use Rattle.mask.proofs.Laws.Rest.{rest-none, none-rest, rest-within, rest-apart, within-rest, apart-by}
-use Rattle.narrow.specs.Clause.{Holds}
-use Rattle.narrow.specs.Narrow.{Between, Narrowed}
+use Rattle.narrow.specs.Code.{Holds, Between, Quiet, Narrowed}
+use Rattle.narrow.specs.declared.Bounds.{Bounds}
 use Rattle.narrow.proofs.Laws.Narrow.{true-not-false, unchanged}
+use Rattle.narrow.proofs.Laws.Unforced.{nothing, both-open, met-or-two}
 
 module _ (body head must may : ℕ) where
   -- the body's literals that are not yet present, and the head's that may be
@@ -22,6 +23,10 @@ module _ (body head must may : ℕ) where
   abbrev left : ℕ
   left = bitAnd head may
 
+  -- narrowed by the clause, and where nothing changed, by nothing that it forces
+  abbrev Forced : Bounds → Type 0
+  Forced = Narrowed (Holds body head) (Quiet (Holds body head)) must may
+
   -- the clause fails in a mask between the bounds that has what is needed and nothing of what is left
   fails : (x : ℕ) → Between must may x → Within needed x → Apart left x → Holds body head x → ⊥
   fails x b p q h = h (within-rest body must x (b .above) p) (apart-by head may x (b .below) q)
@@ -29,8 +34,8 @@ module _ (body head must may : ℕ) where
   -- the one test: the body may not be present, or a head literal is, or w, what is open besides the lowest open literal, is some
   module _ {w : ℕ} (b : w ≡ bitAnd (bitOr needed left) (bitOr needed left - 1)) where
     pub met-or-more : (bitOr (bitOr (rest body may) (bitAnd head must)) w ≡ 0 → ⊥)
-        → Narrowed (Holds body head) must may (record { live = true; must = must; may = may })
-    met-or-more n = unchanged none
+        → Forced (record { live = true; must = must; may = may })
+    met-or-more n = unchanged none (λ i. met-or-two body head must may i w b n)
       where
         none : must ≡ may → Holds body head must
         none e p a =
@@ -48,14 +53,14 @@ module _ (body head must may : ℕ) where
     last-holds e w a = n (ap₂ bitOr (none-rest body must w) (subst (Apart head) e a))
 
     -- one literal is open in body and head alike: the clause holds with it and without it
-    pub same-open : Narrowed (Holds body head) must may (record { live = true; must = must; may = may })
-    same-open = unchanged last-holds
+    pub same-open : (needed ≡ 0 → ⊥) → (left ≡ 0 → ⊥) → Forced (record { live = true; must = must; may = may })
+    same-open f g = unchanged last-holds (λ i. both-open body head must may i f g)
 
     -- one head literal is open and the body present: the literal must be
-    pub last-head : Single (bitOr needed left) → needed ≡ 0
-        → Narrowed (Holds body head) must may (record { live = true; must = bitOr must (bitOr needed left); may = may })
-    last-head s e =
-        subst (λ (z : ℕ). Narrowed (Holds body head) must may (record { live = true; must = bitOr must (bitOr z left); may = may })) (sym e)
+    pub last-head : bitOr (rest body may) (bitAnd head must) ≡ 0 → Single (bitOr needed left) → needed ≡ 0
+        → Forced (record { live = true; must = bitOr must (bitOr needed left); may = may })
+    last-head k s e =
+        subst (λ (z : ℕ). Forced (record { live = true; must = bitOr must (bitOr z left); may = may })) (sym e)
         record {
           kept = record {
             more = within-or-left must left;
@@ -65,8 +70,15 @@ module _ (body head must may : ℕ) where
             dead = λ d. absurd (true-not-false refl d);
           };
           leaf = λ c p q o. last-holds o;
+          quiet = λ c p q i. absurd (changed p);
         }
       where
+        -- what is left is none of what must be
+        changed : bitOr must left ≡ must → ⊥
+        changed p =
+            n (ap₂ bitOr e (nothing left must (subst (Within left) p (within-or-right must left))
+            (within-apart left head must (and-within-left head may) (or-none (rest body may) (bitAnd head must) k .1))))
+
         single : Single left
         single = subst (λ (z : ℕ). Single (bitOr z left)) e s
 
@@ -79,9 +91,9 @@ module _ (body head must may : ℕ) where
 
     -- one body literal is open and no head literal is left: the body literal may not be
     pub last-body : bitOr (rest body may) (bitAnd head must) ≡ 0 → Single (bitOr needed left) → left ≡ 0
-        → Narrowed (Holds body head) must may (record { live = true; must = must; may = bitXor may (bitOr needed left) })
+        → Forced (record { live = true; must = must; may = bitXor may (bitOr needed left) })
     last-body k s e =
-        subst (λ (z : ℕ). Narrowed (Holds body head) must may (record { live = true; must = must; may = bitXor may z })) (sym same)
+        subst (λ (z : ℕ). Forced (record { live = true; must = must; may = bitXor may z })) (sym same)
         record {
           kept = record {
             more = within-refl must;
@@ -91,6 +103,7 @@ module _ (body head must may : ℕ) where
             dead = λ d. absurd (true-not-false refl d);
           };
           leaf = λ c p q o. last-holds o;
+          quiet = λ c p q i. absurd (changed q);
         }
       where
         within : Within needed may
@@ -98,6 +111,11 @@ module _ (body head must may : ℕ) where
 
         same : bitOr needed left ≡ needed
         same = ap (bitOr needed) e ∙ or-zero-r needed
+
+        -- what is needed is some of what may be
+        changed : bitXor may needed ≡ may → ⊥
+        changed q =
+            n (ap₂ bitOr (nothing needed may within (apart-sym may needed (subst (λ (z : ℕ). Apart z needed) q (xor-apart may needed within)))) e)
 
         single : Single needed
         single = subst Single same s
@@ -111,11 +129,12 @@ module _ (body head must may : ℕ) where
             }
 
   -- nothing is open: the clause fails in each mask between the bounds
-  pub nothing-open : bitOr needed left ≡ 0 → Narrowed (Holds body head) must may (record { live = false; must = must; may = may })
+  pub nothing-open : bitOr needed left ≡ 0 → Forced (record { live = false; must = must; may = may })
   nothing-open e =
       record {
         kept = record { more = within-refl must; less = within-refl may; inside = λ w. w; keeps = λ x b h. b; dead = none };
         leaf = λ c. absurd (true-not-false c refl);
+        quiet = λ c. absurd (true-not-false c refl);
       }
     where
       none : false ≡ false → (x : ℕ) → Between must may x → Holds body head x → ⊥

@@ -2,15 +2,15 @@
 -- Assumes nothing.
 use Prim.Native.Nat.{ℕ, _-_, _≤_, _<_}
 use native.Mathlib.Omega.{arith}
-use mathlib.Core.Path.{_≡_, refl, sym, subst, _∙_}
+use mathlib.Core.Path.{_≡_, refl, sym, subst, subst₂, _∙_}
 use mathlib.Core.Bool.{Bool, true, false}
 use lib.Count.{ones}
 use lib.Dec.{T}
-use Rattle.mask.specs.Mask.{Within}
+use Rattle.mask.specs.Code.{Within}
 use Rattle.mask.proofs.Laws.Part.{within-refl, within-trans, within-antisym}
 use Rattle.mask.proofs.Laws.Count.{ones-mono, ones-strict}
 use Rattle.narrow.specs.declared.Bounds.{Bounds}
-use Rattle.narrow.specs.Narrow.{Kept, Narrowed, Propagated}
+use Rattle.narrow.specs.Code.{Kept, Narrowed, Propagated}
 
 pub true-not-false : {b : Bool} → b ≡ true → b ≡ false → ⊥
 true-not-false e f = subst T (sym e ∙ f) tt
@@ -47,25 +47,38 @@ kept-as f v =
       dead = λ e x b p. v .dead e x b (f x p);
     }
 
--- bounds that stay as they are, where the one mask that they may leave has P
-pub unchanged : {P : ℕ → Type 0} {must may : ℕ} → (must ≡ may → P must) → Narrowed P must may (record { live = true; must = must; may = may })
-unchanged h = record { kept = kept-same; leaf = λ a e f g. h g }
+-- bounds that stay as they are, where the one mask that they may leave has P, and Q holds of them
+pub unchanged : {P : ℕ → Type 0} {Q : ℕ → ℕ → Type 0} {must may : ℕ} → (must ≡ may → P must) → (Within must may → Q must may)
+    → Narrowed P Q must may (record { live = true; must = must; may = may })
+unchanged h q = record { kept = kept-same; leaf = λ a e f g. h g; quiet = λ a e f. q }
 
-module _ {P Q R : ℕ → Type 0} {must may : ℕ} {s r : Bounds} where
+module _ {P Q R : ℕ → Type 0} {A B C : ℕ → ℕ → Type 0} {must may : ℕ} {s r : Bounds} where
   -- P narrowed the bounds to s, and Q these to r. Where nothing changed in the end, nothing changed at s
-  pub then : s .live ≡ true → Narrowed P must may s → Narrowed Q (s .must) (s .may) r → ((x : ℕ) → R x → P x) → ((x : ℕ) → R x → Q x)
-      → ((x : ℕ) → P x → Q x → R x) → Narrowed R must may r
-  then a v w f g h = record { kept = kept-then (v .kept) (w .kept) f g; leaf = last }
+  pub then : s .live ≡ true → Narrowed P A must may s → Narrowed Q B (s .must) (s .may) r → ((x : ℕ) → R x → P x) → ((x : ℕ) → R x → Q x)
+      → ((x : ℕ) → P x → Q x → R x) → (A must may → B must may → C must may) → Narrowed R C must may r
+  then a v w f g h k = record { kept = kept-then (v .kept) (w .kept) f g; leaf = last; quiet = still }
     where
+      same : r .must ≡ must → s .must ≡ must
+      same d = within-antisym (s .must) must (subst (Within (s .must)) d (w .kept .more)) (v .kept .more)
+
+      left : r .may ≡ may → s .may ≡ may
+      left e = within-antisym (s .may) may (v .kept .less) (subst (λ (z : ℕ). Within z (s .may)) e (w .kept .less))
+
       last : r .live ≡ true → r .must ≡ must → r .may ≡ may → must ≡ may → R must
       last c d e o =
-          let same : s .must ≡ must = within-antisym (s .must) must (subst (Within (s .must)) d (w .kept .more)) (v .kept .more) in
-          let left : s .may ≡ may = within-antisym (s .may) may (v .kept .less) (subst (λ (z : ℕ). Within z (s .may)) e (w .kept .less)) in
-          h must (v .leaf a same left o) (subst Q same (w .leaf c (d ∙ sym same) (e ∙ sym left) (same ∙ o ∙ sym left)))
+          h must (v .leaf a (same d) (left e) o)
+          (subst Q (same d) (w .leaf c (d ∙ sym (same d)) (e ∙ sym (left e)) (same d ∙ o ∙ sym (left e))))
 
--- a property that says the same
-pub same-property : {P R : ℕ → Type 0} {must may : ℕ} {r : Bounds} → ((x : ℕ) → R x → P x) → ((x : ℕ) → P x → R x) → Narrowed P must may r → Narrowed R must may r
-same-property {must} f g v = record { kept = kept-as f (v .kept); leaf = λ a d e o. g must (v .leaf a d e o) }
+      still : r .live ≡ true → r .must ≡ must → r .may ≡ may → Within must may → C must may
+      still c d e i =
+          k (v .quiet a (same d) (left e) i)
+          (subst₂ B (same d) (left e) (w .quiet c (d ∙ sym (same d)) (e ∙ sym (left e)) (v .kept .inside i)))
+
+-- properties that say the same
+pub same-property : {P R : ℕ → Type 0} {A C : ℕ → ℕ → Type 0} {must may : ℕ} {r : Bounds} → ((x : ℕ) → R x → P x) → ((x : ℕ) → P x → R x) → (A must may → C must may)
+    → Narrowed P A must may r → Narrowed R C must may r
+same-property {must} f g k v =
+    record { kept = kept-as f (v .kept); leaf = λ a d e o. g must (v .leaf a d e o); quiet = λ a d e i. k (v .quiet a d e i) }
 
 -- how many literals are open between two bounds
 abbrev pub open-count : ℕ → ℕ → ℕ
@@ -89,13 +102,18 @@ module _ {P : ℕ → Type 0} {must may : ℕ} {r : Bounds} (v : Kept P must may
   less-open-may n =
       omega (arith, ones-mono must (r .must) (v .more), ones-strict (r .may) may (v .less) n, ones-mono (r .must) (r .may) (v .inside w))
 
--- sweeps: after one that leaves nothing between the bounds, and after one that changes nothing
-module _ {P : ℕ → Type 0} {must may : ℕ} {s r : Bounds} (v : Kept P must may s) (w : Narrowed P (s .must) (s .may) r) where
-  pub swept : Kept P must may r
-  swept = kept-then v (w .kept) (λ x p. p) (λ x p. p)
+-- sweeps: one after others; after one that leaves nothing between the bounds, and after one that changes nothing
+pub swept : {P : ℕ → Type 0} {must may : ℕ} {s r : Bounds} → Kept P must may s → Kept P (s .must) (s .may) r → Kept P must may r
+swept v w = kept-then v w (λ x p. p) (λ x p. p)
 
-  pub propagated-dead : r .live ≡ false → Propagated P must may r
-  propagated-dead n = record { kept = swept; leaf = λ a. absurd (true-not-false a n) }
+module _ {P : ℕ → Type 0} {Q : ℕ → ℕ → Type 0} {must may : ℕ} {s r : Bounds} (v : Kept P must may s) (w : Narrowed P Q (s .must) (s .may) r) where
+  pub propagated-dead : r .live ≡ false → Propagated P Q must may r
+  propagated-dead n = record { kept = swept v (w .kept); leaf = λ a. absurd (true-not-false a n); settled = λ a. absurd (true-not-false a n) }
 
-  pub propagated-same : r .must ≡ s .must → r .may ≡ s .may → Propagated P must may r
-  propagated-same d e = record { kept = swept; leaf = λ a o. subst P (sym d) (w .leaf a d e (sym d ∙ o ∙ e)) }
+  pub propagated-same : Within must may → r .must ≡ s .must → r .may ≡ s .may → Propagated P Q must may r
+  propagated-same i d e =
+      record {
+        kept = swept v (w .kept);
+        leaf = λ a o. subst P (sym d) (w .leaf a d e (sym d ∙ o ∙ e));
+        settled = λ a. subst₂ Q (sym d) (sym e) (w .quiet a d e (v .inside i));
+      }

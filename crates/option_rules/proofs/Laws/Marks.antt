@@ -11,9 +11,9 @@ use Rattle.literal.specs.declared.SignedAtom.{SignedAtom}
 use Rattle.literal.specs.Literal.{encoded}
 use Rattle.record.specs.Layout.{encodedLiterals}
 use Rattle.record.proofs.Laws.Layout.{length-encoded-literals}
-use Rattle.emit.specs.Options.{optionAt, optionsAt}
+use Rattle.emit.specs.Code.{optionAt, optionsAt}
 use Rattle.emit.proofs.Laws.Options.{length-options-at, options-first, options-none}
-use Rattle.option_rules.specs.Marks.{markOf}
+use Rattle.option_rules.specs.Code.{markOf}
 
 module _ (s : List ℕ) where
   module _ (d : Bool) (t : Tag) where

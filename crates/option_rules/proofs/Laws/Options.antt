@@ -18,10 +18,9 @@ use Rattle.literal.proofs.Laws.Literal.{length-encoded}
 use Rattle.semantics.specs.Rule.{Program}
 use Rattle.semantics.specs.Translation.{holdsIfDerived, derivedIfHolds, neverBoth, option, options}
 use Rattle.record.specs.Layout.{encodedLiterals, ruleRecord, encodedRule, encodedRules}
-use Rattle.emit.specs.Header.{header}
+use Rattle.emit.specs.Code.{header, optionAt, optionsAt}
 use Rattle.emit.proofs.Laws.Stores.{length-header}
-use Rattle.emit.specs.Options.{optionAt, optionsAt}
-use Rattle.option_rules.specs.Marks.{markOf}
+use Rattle.option_rules.specs.Code.{markOf}
 use Rattle.emit.proofs.Laws.Options.{options-first, options-none}
 
 -- the records of an append

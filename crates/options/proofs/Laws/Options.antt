@@ -11,7 +11,7 @@ use lib.ListN.{length}
 use Rattle.literal.specs.declared.Literal.{Literal}
 use Rattle.record.specs.Layout.{encodedLiterals}
 use Rattle.record.proofs.Laws.Layout.{encoded-literals-append}
-use Rattle.remains.specs.Left.{leftAt}
+use Rattle.remains.specs.Code.{leftAt}
 use Rattle.remains.proofs.Laws.Left.{left-first}
 
 -- room for an option, if it is left

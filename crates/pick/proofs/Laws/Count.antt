@@ -7,10 +7,10 @@ use mathlib.Core.Bool.{Bool, true, false, cond}
 use lib.Bits.{bitAnd, bitXor}
 use lib.Dec.{eqb}
 use borrow.Author.Tests.{eqb-true, eqb-false}
-use Rattle.mask.specs.Mask.{Within}
+use Rattle.mask.specs.Code.{Within}
 use Rattle.mask.proofs.Laws.Part.{within-trans, and-within-left}
 use Rattle.pick.specs.declared.Tally.{Tally}
-use Rattle.pick.specs.Count.{tallied, refined, mostOf}
+use Rattle.pick.specs.Code.{tallied, refined, mostOf}
 
 -- some positions of k
 abbrev pub Some : ℕ → ℕ → Type 0

@@ -13,20 +13,19 @@ use Rattle.literal.specs.declared.Tag.{Tag}
 use Rattle.literal.specs.declared.SignedAtom.{SignedAtom}
 use Rattle.literal.specs.declared.Literal.{Literal}
 use Rattle.literal.specs.declared.Literal.the-variants.{Signed}
-use Rattle.semantics.specs.Set.{any}
+use Rattle.semantics.specs.Set.{someOf}
 use Rattle.semantics.specs.Rule.{Rule, strict, defeasible, Remainder}
 use Rattle.semantics.specs.Meaning.{undefeated, unlessEmpty, remainder}
 use Rattle.record.specs.Layout.{encodedLiterals, encodedRule}
 use Rattle.record.proofs.Laws.Layout.{encoded-literals-append}
-use Rattle.litset.specs.Keys.{keySet}
-use Rattle.emit.specs.Header.{header}
-use Rattle.emit.specs.Starts.{Starts}
+use Rattle.litset.specs.Code.{keySet}
+use Rattle.emit.specs.Code.{header, Starts}
 use Rattle.emit.proofs.Laws.Fields.{strict-fields, defeasible-fields, literals-next, literals-before, strict-pieces}
-use Rattle.remains.specs.Left.{leftAt}
+use Rattle.remains.specs.Code.{leftAt}
 use Rattle.remains.proofs.Laws.Rule.{nafs-met, left-undefeated}
-use Rattle.remainder.specs.Remainder.{strictBytes, optionBytes, remainderAt}
+use Rattle.remainder.specs.Code.{strictBytes, optionBytes, remainderAt}
 use Rattle.quotient.specs.Quotient.{remainderRule}
-use Rattle.quotient.specs.Writing.{remainderBytes}
+use Rattle.quotient.proofs.Laws.Program.{remainderBytes}
 
 -- a record without naf literals, in pieces
 pieces : (h b : List Literal) → header (length h) (length b) 0 ++ (encodedLiterals h ++ encodedLiterals b) ≡ encodedRule (strict h b [])
@@ -69,7 +68,7 @@ module _ (t k : List ℕ) (m : ℕ) where
   remainder-at (strict h b c) w =
       let f = strict-fields t h b c w in
       ap (λ (x : Bool). cond x [] (cond (eqb (getD t 0 0) 0x44) (optionBytes t (leftAt t k m 7 (getD t 4 0))) (strictBytes t))) (nafs-met t k m 0x53 0 h b c (w .rest) f)
-      ∙ rw (f .of-letter) (go (any (keySet k m) c))
+      ∙ rw (f .of-letter) (go (someOf (keySet k m) c))
     where
       go : (x : Bool) → cond x [] (strictBytes t) ≡ remainderBytes (cond x none (some (record { head = h; positive = b })))
       go true = gone
@@ -77,7 +76,7 @@ module _ (t k : List ℕ) (m : ℕ) where
   remainder-at (defeasible u h b c) w =
       let f = defeasible-fields t u h b c w in
       ap (λ (x : Bool). cond x [] (cond (eqb (getD t 0 0) 0x44) (optionBytes t (leftAt t k m 7 (getD t 4 0))) (strictBytes t))) (nafs-met t k m 0x44 (u .0) (map Signed h) b c (w .rest) f)
-      ∙ rw (f .of-letter) (go (any (keySet k m) c))
+      ∙ rw (f .of-letter) (go (someOf (keySet k m) c))
     where
       go : (x : Bool) → cond x [] (optionBytes t (leftAt t k m 7 (getD t 4 0))) ≡ remainderBytes (cond x none (unlessEmpty (undefeated u h (keySet k m)) b))
       go true = gone

@@ -15,17 +15,16 @@ use Rattle.literal.specs.declared.Literal.{Literal}
 use Rattle.semantics.specs.Rule.{Program}
 use Rattle.semantics.specs.Meaning.{remainder}
 use Rattle.record.specs.Layout.{encodedEnd, encodedProgram}
-use Rattle.record.specs.Size.{recordSize}
-use Rattle.litset.specs.Keys.{keySet, anyKey}
-use Rattle.emit.specs.Starts.{Stands}
-use Rattle.emit.proofs.Laws.Stands.{stands-open, stands-end, stands-more, stands-start}
-use Rattle.remains.specs.Left.{leftAt}
+use Rattle.record.specs.Code.{recordSize}
+use Rattle.litset.specs.Code.{keySet, anyKey}
+use Rattle.emit.proofs.Laws.Stands.{Stands, stands-open, stands-end, stands-more, stands-start}
+use Rattle.remains.specs.Code.{leftAt}
 use Rattle.remains.proofs.Laws.Left.{left-few}
-use Rattle.remainder.specs.Remainder.{remainderAt, optionBytes}
+use Rattle.remainder.specs.Code.{remainderAt, optionBytes}
 use Rattle.remainder.proofs.Laws.Remainder.{remainder-removed, remainder-defeasible, remainder-strict, length-strict-bytes, length-option-bytes, option-bytes-none}
-use Rattle.quotient.specs.Writing.{remainderBytes, remainderCount, quotientOf}
+use Rattle.quotient.proofs.Laws.Program.{remainderBytes, remainderCount, leftBytes, rest, count-bytes, count-few, rest-rule, rest-nil, rest-start, length-rest, length-left-rule, length-left-nil}
+use Rattle.quotient.specs.Code.{quotientOf}
 use Rattle.quotient.proofs.Laws.Meaning.{remainder-at}
-use Rattle.quotient.proofs.Laws.Program.{leftBytes, rest, count-bytes, count-few, rest-rule, rest-nil, rest-start, length-rest, length-left-rule, length-left-nil}
 
 -- what is left of a record is no longer than the record
 pub remainder-short : (t k : List ℕ) (m : ℕ) → recordSize t ≤ length t → length (remainderAt t k m) ≤ recordSize t

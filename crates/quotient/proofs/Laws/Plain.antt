@@ -13,10 +13,10 @@ use Rattle.literal.specs.declared.Tag.{Tag}
 use Rattle.literal.specs.declared.SignedAtom.{SignedAtom}
 use Rattle.literal.specs.declared.Literal.{Literal}
 use Rattle.literal.specs.declared.Literal.the-variants.{Signed, Defeated, Derived, RuleDefeated}
-use Rattle.literal.specs.Literal.{atomNumber, inRange, ranged, takes}
+use Rattle.literal.specs.Literal.{mostKind, atomNumber, inRange, ranged, takes}
 use Rattle.literal.specs.Limits.{source, plain}
 use Rattle.literal.proofs.Laws.Literal.{takes-kind, takes-ranged, takes-both}
-use Rattle.semantics.specs.Set.{LiteralSet, any, all, setOf}
+use Rattle.semantics.specs.Set.{LiteralSet, someOf, eachOf, setOf}
 use Rattle.semantics.specs.Rule.{Rule, strict, defeasible, Program, Remainder, head, positive, naf}
 use Rattle.semantics.specs.Meaning.{undefeated, unlessEmpty, remainder, withRemainder, quotient}
 use Rattle.semantics.specs.Form.{keepsCounts, keepsLiterals, keepsTag, keepsRule, keepsRules}
@@ -37,7 +37,7 @@ pub record Within (F G : Limits) : Type 0 where
   pub rules : F .rules ≤ G .rules
   pub heads : F .heads ≤ G .heads
   pub positives : F .positives ≤ G .positives
-  pub kinds : F .kinds ≤ G .kinds
+  pub kinds : mostKind (F .kinds) ≤ mostKind (G .kinds)
   pub atoms : F .atoms ≤ G .atoms
   pub tags : F .tags ≤ G .tags
   pub numbers : F .numbers ≤ G .numbers
@@ -61,27 +61,27 @@ module _ (F G : Limits) (w : Within F G) where
   takes-wider : (l : Literal) → T (takes F l) → T (takes G l)
   takes-wider l y = takes-both G l (omega (arith, takes-kind F l y, w .kinds)) (ranged-wider l (takes-ranged F l y))
 
-  all-wider : (ls : List Literal) → T (all (takes F) ls) → T (all (takes G) ls)
+  all-wider : (ls : List Literal) → T (eachOf (takes F) ls) → T (eachOf (takes G) ls)
   all-wider ls y = all-intro (takes G) ls (λ l m. takes-wider l (all-mem (takes F) y m))
 
   -- what is left of options that F takes
-  options-taken : (t : Tag) (h : List SignedAtom) (s : LiteralSet) → T (all (takes F) (map Signed h)) → T (all (takes F) (undefeated t h s))
+  options-taken : (t : Tag) (h : List SignedAtom) (s : LiteralSet) → T (eachOf (takes F) (map Signed h)) → T (eachOf (takes F) (undefeated t h s))
   unfolding undefeated
   options-taken t [] s y = tt
-  options-taken t (a ∷ h) s y = go (s (Defeated t a)) (options-taken t h s (second (takes F (Signed a)) (all (takes F) (map Signed h)) y))
+  options-taken t (a ∷ h) s y = go (s (Defeated t a)) (options-taken t h s (second (takes F (Signed a)) (eachOf (takes F) (map Signed h)) y))
     where
-      go : (b : Bool) → T (all (takes F) (undefeated t h s)) → T (all (takes F) (cond b (undefeated t h s) (Signed a ∷ undefeated t h s)))
+      go : (b : Bool) → T (eachOf (takes F) (undefeated t h s)) → T (eachOf (takes F) (cond b (undefeated t h s) (Signed a ∷ undefeated t h s)))
       go true v = v
-      go false v = both (takes F (Signed a)) (all (takes F) (undefeated t h s)) (first (takes F (Signed a)) (all (takes F) (map Signed h)) y) v
+      go false v = both (takes F (Signed a)) (eachOf (takes F) (undefeated t h s)) (first (takes F (Signed a)) (eachOf (takes F) (map Signed h)) y) v
 
   -- a remainder within F's limits is a rule within G's
-  kept-rule : (h b : List Literal) → length h ≤ F .heads → length b ≤ F .positives → T (all (takes F) h) → T (all (takes F) b) → T (keepsRule G (strict h b []))
+  kept-rule : (h b : List Literal) → length h ≤ F .heads → length b ≤ F .positives → T (eachOf (takes F) h) → T (eachOf (takes F) b) → T (keepsRule G (strict h b []))
   unfolding keepsRule keepsTag keepsCounts keepsLiterals head positive naf
   kept-rule h b m n y z =
-      both (leb (length h) (G .heads) && (leb (length b) (G .positives) && leb 0 (G .nafs))) (all (takes G) h && (all (takes G) b && true))
+      both (leb (length h) (G .heads) && (leb (length b) (G .positives) && leb 0 (G .nafs))) (eachOf (takes G) h && (eachOf (takes G) b && true))
       (both (leb (length h) (G .heads)) (leb (length b) (G .positives) && leb 0 (G .nafs)) (le→leb (length h) (G .heads) (omega (arith, w .heads)))
       (both (leb (length b) (G .positives)) (leb 0 (G .nafs)) (le→leb (length b) (G .positives) (omega (arith, w .positives))) (le→leb 0 (G .nafs) (omega arith))))
-      (both (all (takes G) h) (all (takes G) b && true) (all-wider h y) (both (all (takes G) b) true (all-wider b z) tt))
+      (both (eachOf (takes G) h) (eachOf (takes G) b && true) (all-wider h y) (both (eachOf (takes G) b) true (all-wider b z) tt))
 
   -- the counts of a rule within F's limits
   counts : (r : Rule) → T (keepsRule F r) → (length (head r) ≤ F .heads) × (length (positive r) ≤ F .positives)
@@ -101,14 +101,14 @@ module _ (F G : Limits) (w : Within F G) where
   -- what is left of a rule within F's limits
   remainder-kept : (r : Rule) (s : LiteralSet) → T (keepsRule F r) → Kept (remainder r s)
   unfolding remainder Kept remainderRule head positive unlessEmpty
-  remainder-kept (strict h b c) s k = go (any s c)
+  remainder-kept (strict h b c) s k = go (someOf s c)
     where
       go : (x : Bool) → Kept (cond x none (some (record { head = h; positive = b })))
       go true = tt
       go false = let n = counts (strict h b c) k in kept-rule h b (n .0) (n .1) (keeps-head F (strict h b c) k) (keeps-positive F (strict h b c) k)
-  remainder-kept (defeasible t h b c) s k = go (any s c) (undefeated t h s) (options-taken t h s (keeps-head F (defeasible t h b c) k)) (undefeated-few t h s)
+  remainder-kept (defeasible t h b c) s k = go (someOf s c) (undefeated t h s) (options-taken t h s (keeps-head F (defeasible t h b c) k)) (undefeated-few t h s)
     where
-      go : (x : Bool) (ls : List Literal) → T (all (takes F) ls) → length ls ≤ length h → Kept (cond x none (unlessEmpty ls b))
+      go : (x : Bool) (ls : List Literal) → T (eachOf (takes F) ls) → length ls ≤ length h → Kept (cond x none (unlessEmpty ls b))
       go true ls y m = tt
       go false [] y m = tt
       go false (l ∷ ls) y m =
@@ -116,19 +116,19 @@ module _ (F G : Limits) (w : Within F G) where
           kept-rule (l ∷ ls) b (omega (arith, n .0, length-map h Signed)) (n .1) y (keeps-positive F (defeasible t h b c) k)
 
   -- the quotient of a program within F's limits
-  rules-kept : (p : Program) (s : LiteralSet) → T (all (keepsRule F) p) → T (all (keepsRule G) (map remainderRule (quotient p s)))
+  rules-kept : (p : Program) (s : LiteralSet) → T (eachOf (keepsRule F) p) → T (eachOf (keepsRule G) (map remainderRule (quotient p s)))
   unfolding quotient Kept withRemainder
   rules-kept [] s k = tt
-  rules-kept (r ∷ p) s k = go (remainder r s) (remainder-kept r s (first (keepsRule F r) (all (keepsRule F) p) k)) (rules-kept p s (second (keepsRule F r) (all (keepsRule F) p) k))
+  rules-kept (r ∷ p) s k = go (remainder r s) (remainder-kept r s (first (keepsRule F r) (eachOf (keepsRule F) p) k)) (rules-kept p s (second (keepsRule F r) (eachOf (keepsRule F) p) k))
     where
-      go : (o : Option Remainder) → Kept o → T (all (keepsRule G) (map remainderRule (quotient p s))) → T (all (keepsRule G) (map remainderRule (withRemainder o (quotient p s))))
+      go : (o : Option Remainder) → Kept o → T (eachOf (keepsRule G) (map remainderRule (quotient p s))) → T (eachOf (keepsRule G) (map remainderRule (withRemainder o (quotient p s))))
       go none v y = y
-      go (some q) v y = both (keepsRule G (remainderRule q)) (all (keepsRule G) (map remainderRule (quotient p s))) v y
+      go (some q) v y = both (keepsRule G (remainderRule q)) (eachOf (keepsRule G) (map remainderRule (quotient p s))) v y
 
 -- a quotient is read, in a form whose figures are as large, as the program that it is
 pub quotient-read : (F G : Limits) → Within F G → (p : Program) (ls : List Literal) → T (keeps F p) → parsed G (encodedProgram (quotientProgram p ls)) ≡ accepted (quotientProgram p ls)
 unfolding quotientProgram keeps keepsRules
-quotient-read F G w p ls k = parsed-complete G q (both (leb (length q) (G .rules) && all (keepsRule G) q) (leb (length (encodedProgram q)) (G .length)) (both (leb (length q) (G .rules)) (all (keepsRule G) q) few kept) short)
+quotient-read F G w p ls k = parsed-complete G q (both (leb (length q) (G .rules) && eachOf (keepsRule G) q) (leb (length (encodedProgram q)) (G .length)) (both (leb (length q) (G .rules)) (eachOf (keepsRule G) q) few kept) short)
   where
     q : Program
     q = map remainderRule (quotient p (setOf ls))
@@ -139,7 +139,7 @@ quotient-read F G w p ls k = parsed-complete G q (both (leb (length q) (G .rules
     few : T (leb (length q) (G .rules))
     few = le→leb (length q) (G .rules) (omega (arith, length-map (quotient p (setOf ls)) remainderRule, rules-left (setOf ls) p, keeps-count F p rules, w .rules))
 
-    kept : T (all (keepsRule G) q)
+    kept : T (eachOf (keepsRule G) q)
     kept = rules-kept F G w p (setOf ls) (keeps-each F p rules)
 
     short : T (leb (length (encodedProgram q)) (G .length))
@@ -149,7 +149,7 @@ quotient-read F G w p ls k = parsed-complete G q (both (leb (length q) (G .rules
 
 -- both forms' figures are within the plain form's
 pub source-within : Within source plain
-unfolding source plain
+unfolding source plain mostKind
 source-within = record { bytes = omega arith; rules = omega arith; heads = omega arith; positives = omega arith; kinds = omega arith; atoms = omega arith; tags = omega arith; numbers = omega arith }
 
 pub plain-within : Within plain plain

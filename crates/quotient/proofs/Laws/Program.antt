@@ -1,5 +1,5 @@
 -- Laws of a program's quotient as bytes, one rule each.
--- In order: a rule more; how many rules; lengths. Assumes nothing.
+-- In order: what is left of a rule, as bytes; a rule more; how many rules; lengths. Assumes nothing.
 use Prim.Native.Nat.{ℕ, zero, suc, _+_, _≤_, _<_}
 use native.Mathlib.Omega.{arith}
 use native.Mathlib.Nat.{add-zero, zero-add}
@@ -16,7 +16,17 @@ use Rattle.semantics.specs.Meaning.{remainder, withRemainder, quotient}
 use Rattle.record.specs.Layout.{encodedRule, encodedRules, encodedEnd, encodedProgram, ruleRecord}
 use Rattle.emit.proofs.Laws.Stands.{length-end}
 use Rattle.quotient.specs.Quotient.{remainderRule}
-use Rattle.quotient.specs.Writing.{remainderBytes, remainderCount, quotientOf}
+use Rattle.quotient.specs.Code.{quotientOf}
+
+-- the record of what is left of a rule, if anything is
+unfoldable pub remainderBytes : Option Remainder → List ℕ
+remainderBytes none = []
+remainderBytes (some q) = encodedRule (remainderRule q)
+
+-- the number of its rules
+unfoldable pub remainderCount : Option Remainder → ℕ
+remainderCount none = 0
+remainderCount (some q) = 1
 
 -- the records of a quotient's rules
 unfoldable pub leftBytes : Program → LiteralSet → List ℕ

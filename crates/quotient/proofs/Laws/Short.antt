@@ -6,7 +6,7 @@ use mathlib.Core.List.{List, [], _∷_, map}
 use mathlib.Core.Option.{none, some}
 use lib.ListN.{length, length-append}
 use Rattle.literal.specs.declared.Literal.{Literal}
-use Rattle.semantics.specs.Set.{LiteralSet, any}
+use Rattle.semantics.specs.Set.{LiteralSet, someOf}
 use Rattle.semantics.specs.Rule.{Rule, strict, defeasible, Program}
 use Rattle.semantics.specs.Meaning.{undefeated, unlessEmpty, remainder, quotient}
 use Rattle.semantics.specs.Translation.{recordLength}
@@ -14,19 +14,19 @@ use Rattle.record.specs.Layout.{encodedRule, encodedRules, encodedEnd, encodedP
 use Rattle.record.proofs.Laws.Layout.{length-encoded-rule}
 use Rattle.emit.proofs.Laws.Stands.{length-end}
 use Rattle.quotient.specs.Quotient.{remainderRule}
-use Rattle.quotient.specs.Writing.{remainderBytes, quotientOf}
+use Rattle.quotient.proofs.Laws.Program.{remainderBytes, leftBytes, length-left-rule, length-left-nil}
+use Rattle.quotient.specs.Code.{quotientOf}
 use Rattle.semantics.proofs.Laws.Meaning.{undefeated-few}
-use Rattle.quotient.proofs.Laws.Program.{leftBytes, length-left-rule, length-left-nil}
 
 -- what is left of a rule is no longer than its record
 remainder-shorter : (r : Rule) (s : LiteralSet) → length (remainderBytes (remainder r s)) ≤ length (encodedRule r)
 unfolding remainder remainderBytes remainderRule recordLength unlessEmpty
-remainder-shorter (strict h b c) s = go (any s c)
+remainder-shorter (strict h b c) s = go (someOf s c)
   where
     go : (x : Bool) → length (remainderBytes (cond x none (some (record { head = h; positive = b })))) ≤ length (encodedRule (strict h b c))
     go true = omega arith
     go false = omega (arith, length-encoded-rule (strict h b []), length-encoded-rule (strict h b c))
-remainder-shorter (defeasible t h b c) s = go (any s c) (undefeated t h s) (undefeated-few t h s)
+remainder-shorter (defeasible t h b c) s = go (someOf s c) (undefeated t h s) (undefeated-few t h s)
   where
     go : (x : Bool) (ls : List Literal) → length ls ≤ length h → length (remainderBytes (cond x none (unlessEmpty ls b))) ≤ length (encodedRule (defeasible t h b c))
     go true ls m = omega arith

@@ -16,11 +16,11 @@ use Rattle.literal.specs.declared.SignedAtom.{SignedAtom}
 use Rattle.literal.specs.declared.SignedAtom.the-variants.{Positive, Negative}
 use Rattle.literal.specs.declared.Literal.{Literal}
 use Rattle.literal.specs.declared.Literal.the-variants.{Signed, Defeated, Derived, RuleDefeated}
-use Rattle.literal.specs.declared.Decoded.{Decoded}
-use Rattle.literal.specs.declared.Decoded.the-variants.{Valid, Wrong}
+use Rattle.literal.specs.Literal.{Decoded}
+use Rattle.literal.specs.Literal.{Valid, Wrong}
 use Rattle.literal.specs.Literal.{decoded, kind}
 use Rattle.literal.proofs.Laws.Literal.{decoded-kind}
-use Rattle.semantics.specs.Set.{all}
+use Rattle.semantics.specs.Set.{eachOf}
 use Rattle.semantics.specs.Rule.{Rule, defeasible}
 use Rattle.record.specs.declared.Reason.the-variants.{LiteralsCut, HeadWrong, LiteralWrong}
 use Rattle.record.specs.declared.Refusal.{Refusal}
@@ -51,7 +51,7 @@ kind-signed (Derived t (Negative a)) = refl
 kind-signed (RuleDefeated n) = refl
 
 -- such literals are options; where one is a mark, there are none
-options-signed : (ls : List Literal) → all isSigned ls ≡ true → (h : List SignedAtom) × (optionsOf ls ≡ some h)
+options-signed : (ls : List Literal) → eachOf isSigned ls ≡ true → (h : List SignedAtom) × (optionsOf ls ≡ some h)
 unfolding isSigned optionsOf
 options-signed [] e = ([], refl)
 options-signed (Signed a ∷ ls) e = let w = options-signed ls e in (a ∷ w .0, rw (w .1))
@@ -59,7 +59,7 @@ options-signed (Defeated t a ∷ ls) e = absurd (true≢false (sym e))
 options-signed (Derived t a ∷ ls) e = absurd (true≢false (sym e))
 options-signed (RuleDefeated n ∷ ls) e = absurd (true≢false (sym e))
 
-options-marked : (ls : List Literal) → all isSigned ls ≡ false → optionsOf ls ≡ none
+options-marked : (ls : List Literal) → eachOf isSigned ls ≡ false → optionsOf ls ≡ none
 unfolding isSigned optionsOf
 options-marked [] e = absurd (true≢false e)
 options-marked (Signed a ∷ ls) e = rw (options-marked ls e)
@@ -73,12 +73,12 @@ unfolding defeasibleRule
 defeasible-empty tag [] bs cs e = refl
 defeasible-empty tag (l ∷ hs) bs cs e = absurd (omega arith)
 
-defeasible-marked : (tag : ℕ) (hs bs cs : List Literal) → all isSigned hs ≡ false → defeasibleRule tag hs bs cs ≡ refused (refusal HeadWrong 0)
+defeasible-marked : (tag : ℕ) (hs bs cs : List Literal) → eachOf isSigned hs ≡ false → defeasibleRule tag hs bs cs ≡ refused (refusal HeadWrong 0)
 unfolding defeasibleRule
 defeasible-marked tag [] bs cs e = absurd (true≢false e)
 defeasible-marked tag (l ∷ hs) bs cs e = rw (options-marked (l ∷ hs) e, defeasibleRule)
 
-defeasible-signed : (tag : ℕ) (hs bs cs : List Literal) → 0 < length hs → all isSigned hs ≡ true → (r : Rule) × (defeasibleRule tag hs bs cs ≡ accepted r)
+defeasible-signed : (tag : ℕ) (hs bs cs : List Literal) → 0 < length hs → eachOf isSigned hs ≡ true → (r : Rule) × (defeasibleRule tag hs bs cs ≡ accepted r)
 unfolding defeasibleRule
 defeasible-signed tag [] bs cs h e = absurd (omega arith)
 defeasible-signed tag (l ∷ hs) bs cs h e = let w = options-signed (l ∷ hs) e in (defeasible (record { 0 = tag }) (w .0) bs cs, rw (w .1, defeasibleRule))
@@ -105,7 +105,7 @@ module _ (F : Limits) (t : List ℕ) where
   run-length (suc n) at ls e = let w = run-first at n ls e in ap length (sym (w .2)) ∙ ap suc (run-length n (at + 5) (w .1) (w .4))
 
   -- the kind bytes of its first literals tell whether they are signed atoms
-  run-kinds : (h n at : ℕ) (ls : List Literal) → h ≤ n → literalsAt F t at n ≡ accepted ls → signedKinds t at h ≡ all isSigned (take h ls)
+  run-kinds : (h n at : ℕ) (ls : List Literal) → h ≤ n → literalsAt F t at n ≡ accepted ls → signedKinds t at h ≡ eachOf isSigned (take h ls)
   unfolding signedKinds
   run-kinds zero n at ls le e = refl
   run-kinds (suc h) zero at ls le e = absurd (omega arith)
@@ -113,7 +113,7 @@ module _ (F : Limits) (t : List ℕ) where
       let w = run-first at n ls e in
       let byte : getD t at 0 ≡ kind (w .0) = sym (getD-drop at t 0 0 ∙ ap (λ (i : ℕ). getD t i 0) (add-zero at)) ∙ decoded-kind F (drop at t) (w .0) (w .3) in
       ap₂ (λ (x y : Bool). x && y) (ap (λ (k : ℕ). leb k 1) byte ∙ kind-signed (w .0)) (run-kinds h n (at + 5) (w .1) (omega arith) (w .4))
-      ∙ ap (λ (ms : List Literal). all isSigned (take (suc h) ms)) (w .2)
+      ∙ ap (λ (ms : List Literal). eachOf isSigned (take (suc h) ms)) (w .2)
 
 -- what a run says of its literals
 run-right : (r : Result (List Literal)) → runOf r ≡ Run.Right → (ls : List Literal) × (r ≡ accepted ls)
@@ -181,7 +181,7 @@ module _ (F : Limits) (d : Bool) (t : List ℕ) (h b c : ℕ) where
       heads-count : length (take h ls) ≡ h
       heads-count = length-take-le h ls (omega (arith, run-length F t (h + b + c) 7 ls run-is))
 
-      heads-kinds : signedKinds t 7 h ≡ all isSigned (take h ls)
+      heads-kinds : signedKinds t 7 h ≡ eachOf isSigned (take h ls)
       heads-kinds = run-kinds F t h (h + b + c) 7 ls (omega arith) run-is
 
       -- 7: a defeasible head that is empty

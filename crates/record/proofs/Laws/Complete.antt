@@ -18,11 +18,11 @@ use Rattle.literal.specs.declared.SignedAtom.{SignedAtom}
 use Rattle.literal.specs.declared.Tag.{Tag}
 use Rattle.literal.specs.declared.Literal.{Literal}
 use Rattle.literal.specs.declared.Literal.the-variants.{Signed}
-use Rattle.literal.specs.declared.Decoded.{Decoded}
-use Rattle.literal.specs.declared.Decoded.the-variants.{Valid, Wrong}
+use Rattle.literal.specs.Literal.{Decoded}
+use Rattle.literal.specs.Literal.{Valid, Wrong}
 use Rattle.literal.specs.Literal.{encoded, decoded, takes, inRange}
 use Rattle.literal.proofs.Laws.Literal.{decoded-encoded}
-use Rattle.semantics.specs.Set.{all}
+use Rattle.semantics.specs.Set.{eachOf}
 use Rattle.semantics.specs.Rule.{Rule, strict, defeasible, Program, head, positive, naf}
 use Rattle.semantics.specs.Translation.{recordLength}
 use Rattle.semantics.specs.Form.{keepsCounts, keepsTag, keepsRule}
@@ -44,18 +44,18 @@ failed : (b : Bool) → T b → not b ≡ false
 failed b t = ap not (is-true b t)
 
 module _ (F : Limits) where
-  literals-complete : (t : List ℕ) (at : ℕ) (ls : List Literal) (rest : List ℕ) → T (all (takes F) ls) → drop at t ≡ encodedLiterals ls ++ rest
+  literals-complete : (t : List ℕ) (at : ℕ) (ls : List Literal) (rest : List ℕ) → T (eachOf (takes F) ls) → drop at t ≡ encodedLiterals ls ++ rest
       → literalsAt F t at (length ls) ≡ accepted ls
   unfolding literalsAt encodedLiterals encoded
   literals-complete t at [] rest k e = refl
   literals-complete t at (l ∷ ls) rest k e =
-      go (decoded F (drop at t)) valid (literals-complete t (at + 5) ls rest (second (takes F l) (all (takes F) ls) k) behind)
+      go (decoded F (drop at t)) valid (literals-complete t (at + 5) ls rest (second (takes F l) (eachOf (takes F) ls) k) behind)
     where
       here : drop at t ≡ encoded l ++ (encodedLiterals ls ++ rest)
       here = e ∙ append-assoc (encoded l) (encodedLiterals ls) rest
 
       valid : decoded F (drop at t) ≡ Valid l
-      valid = ap (decoded F) here ∙ decoded-encoded F l (encodedLiterals ls ++ rest) (first (takes F l) (all (takes F) ls) k)
+      valid = ap (decoded F) here ∙ decoded-encoded F l (encodedLiterals ls ++ rest) (first (takes F l) (eachOf (takes F) ls) k)
 
       behind : drop (at + 5) t ≡ encodedLiterals ls ++ rest
       behind = sym (drop-drop 5 at t) ∙ ap (drop 5) here
@@ -85,11 +85,11 @@ module _ (F : Limits) where
     unfolding t ruleRecord
     tag-is = omega arith
 
-    literals-are : T (all (takes F) (h ++ (b ++ c))) → literalsAt F t 7 (length h + length b + length c) ≡ accepted (h ++ (b ++ c))
+    literals-are : T (eachOf (takes F) (h ++ (b ++ c))) → literalsAt F t 7 (length h + length b + length c) ≡ accepted (h ++ (b ++ c))
     unfolding t ruleRecord
     literals-are k = ap (literalsAt F t 7) (sym three) ∙ literals-complete t 7 (h ++ (b ++ c)) rest k refl
 
-    rule-complete : T (all (takes F) (h ++ (b ++ c))) → T (keepsCounts F (length h) (length b) (length c)) → T (tagRight F d tag) → n < F .rules
+    rule-complete : T (eachOf (takes F) (h ++ (b ++ c))) → T (keepsCounts F (length h) (length b) (length c)) → T (tagRight F d tag) → n < F .rules
         → (r : Rule) → ruleOf d tag (length h) (length b) (h ++ (b ++ c)) ≡ accepted r → ruleAt F d n t ≡ accepted (rule r size)
     unfolding ruleAt bodyAt t ruleRecord size
     rule-complete taken counts right room r is =
@@ -151,11 +151,11 @@ defeasible-mark F tag h b c rest k = ap (λ (x : Bool). pickMark false x false) 
 
 module _ (F : Limits) where
   -- the literals of a rule within the limits, one behind the other
-  joined : (r : Rule) → T (keepsRule F r) → T (all (takes F) (head r ++ (positive r ++ naf r)))
+  joined : (r : Rule) → T (keepsRule F r) → T (eachOf (takes F) (head r ++ (positive r ++ naf r)))
   joined r k =
       along (sym (all-append (takes F) (head r) (positive r ++ naf r)))
-      (both (all (takes F) (head r)) (all (takes F) (positive r ++ naf r)) (keeps-head F r k)
-      (along (sym (all-append (takes F) (positive r) (naf r))) (both (all (takes F) (positive r)) (all (takes F) (naf r)) (keeps-positive F r k) (keeps-naf F r k))))
+      (both (eachOf (takes F) (head r)) (eachOf (takes F) (positive r ++ naf r)) (keeps-head F r k)
+      (along (sym (all-append (takes F) (positive r) (naf r))) (both (eachOf (takes F) (positive r)) (eachOf (takes F) (naf r)) (keeps-positive F r k) (keeps-naf F r k))))
 
   two : (t : List ℕ) → 2 ≤ length t → (n : ℕ) → recordAt F n t ≡ markedRecord F (markAt F t) n t
   unfolding recordAt
@@ -163,7 +163,7 @@ module _ (F : Limits) where
 
   -- a record with this mark, header and literals
   marked-complete : (d : Bool) (n l tag : ℕ) (h b c : List Literal) (rest : List ℕ) (r : Rule) → markAt F (ruleRecord l tag h b c ++ rest) ≡ RuleMark d
-      → T (all (takes F) (h ++ (b ++ c))) → T (keepsCounts F (length h) (length b) (length c)) → T (tagRight F d tag) → n < F .rules
+      → T (eachOf (takes F) (h ++ (b ++ c))) → T (keepsCounts F (length h) (length b) (length c)) → T (tagRight F d tag) → n < F .rules
       → ruleOf d tag (length h) (length b) (h ++ (b ++ c)) ≡ accepted r
       → recordAt F n (ruleRecord l tag h b c ++ rest) ≡ accepted (rule r (7 + 5 * (length h + (length b + length c))))
   unfolding markedRecord t size
@@ -209,7 +209,7 @@ module _ (F : Limits) where
       whole = omega arith
 
   -- the records of a program within the limits, and its end record
-  pub rules-complete : (f : ℕ) (p : Program) (at n : ℕ) → T (all (keepsRule F) p) → n + length p ≤ F .rules → length p < f
+  pub rules-complete : (f : ℕ) (p : Program) (at n : ℕ) → T (eachOf (keepsRule F) p) → n + length p ≤ F .rules → length p < f
       → rulesFrom F f (encodedRules p ++ encodedEnd (n + length p)) at n ≡ accepted p
   unfolding rulesFrom encodedRules
   rules-complete zero p at n k room fuel = absurd (omega arith)
@@ -217,8 +217,8 @@ module _ (F : Limits) where
       rules-end F f (encodedEnd (n + 0)) at n (ap (λ (m : ℕ). recordAt F n (encodedEnd m)) (add-zero n) ∙ end-complete n)
   rules-complete (suc f) (r ∷ p) at n k room fuel =
       ap (λ (bs : List ℕ). rulesFrom F (suc f) bs at n) (append-assoc (encodedRule r) (encodedRules p) (encodedEnd (n + length (r ∷ p))))
-      ∙ rules-rule F f (encodedRule r ++ rest) at n r (recordLength r) (record-complete r n rest (first (keepsRule F r) (all (keepsRule F) p) k) (omega arith))
-      ∙ ap (λ (q : Result Program). andThen q (λ w. accepted (r ∷ w))) (behind ∙ rules-complete f p (at + recordLength r) (n + 1) (second (keepsRule F r) (all (keepsRule F) p) k) (omega arith) (omega arith))
+      ∙ rules-rule F f (encodedRule r ++ rest) at n r (recordLength r) (record-complete r n rest (first (keepsRule F r) (eachOf (keepsRule F) p) k) (omega arith))
+      ∙ ap (λ (q : Result Program). andThen q (λ w. accepted (r ∷ w))) (behind ∙ rules-complete f p (at + recordLength r) (n + 1) (second (keepsRule F r) (eachOf (keepsRule F) p) k) (omega arith) (omega arith))
       ∙ accepted-and-then p (λ w. accepted (r ∷ w))
     where
       rest : List ℕ

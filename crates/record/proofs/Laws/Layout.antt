@@ -9,7 +9,8 @@ use Rattle.literal.specs.declared.Literal.the-variants.{Signed}
 use Rattle.literal.specs.Literal.{encoded}
 use Rattle.literal.proofs.Laws.Literal.{length-encoded}
 use Rattle.semantics.specs.Rule.{Rule, strict, defeasible, Program}
-use Rattle.semantics.specs.Translation.{recordLength, recordsLength, programLength}
+use Rattle.semantics.specs.Translation.{recordLength}
+use Rattle.semantics.proofs.Laws.Length.{recordsLength, programLength}
 use Rattle.record.specs.Layout.{encodedLiterals, ruleRecord, encodedRule, encodedRules, encodedEnd, encodedProgram}
 
 pub encoded-literals-append : (ls ms : List Literal) → encodedLiterals (ls ++ ms) ≡ encodedLiterals ls ++ encodedLiterals ms

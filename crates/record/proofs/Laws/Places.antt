@@ -11,8 +11,8 @@ use Rattle.buffer.specs.Bytes.{numberAt}
 use Rattle.literal.specs.declared.Limits.{Limits}
 use Rattle.literal.specs.declared.SignedAtom.{SignedAtom}
 use Rattle.literal.specs.declared.Literal.{Literal}
-use Rattle.literal.specs.declared.Decoded.{Decoded}
-use Rattle.literal.specs.declared.Decoded.the-variants.{Valid, Wrong}
+use Rattle.literal.specs.Literal.{Decoded}
+use Rattle.literal.specs.Literal.{Valid, Wrong}
 use Rattle.literal.specs.Literal.{decoded}
 use Rattle.semantics.specs.Rule.{Rule, defeasible}
 use Rattle.record.specs.declared.Reason.the-variants.{LiteralWrong, HeadWrong}

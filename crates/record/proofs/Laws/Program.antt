@@ -1,5 +1,5 @@
 -- Reading a program, one record each: what the rules counted so far and the part that is left come to.
--- In order: what a step says of its record; a rule's size; counting on.
+-- In order: a part that is counted; what a step says of its record; a rule's size; counting on.
 -- Assumes nothing.
 use Prim.Native.Nat.{ℕ, suc, _+_, _*_, _-_, _≤_, _<_}
 use native.Mathlib.Omega.{arith}
@@ -22,9 +22,14 @@ use Rattle.record.specs.declared.Reading.{Reading}
 use Rattle.record.specs.Refusal.{refusal, shifted}
 use Rattle.record.specs.Result.{Result, accepted, refused, andThen}
 use Rattle.record.specs.Reading.{Entry, rule, end, literalsAt, ruleOf, bodyAt, ruleAt, endAt, markAt, markedRecord, recordAt, rulesFrom, parsed, readingOf, reading}
-use Rattle.record.specs.Code.{stepOf, countedOn}
+use Rattle.record.specs.Code.{stepOf}
 use Rattle.record.proofs.Laws.Result.{refused-accepted, accepted-eq, and-then-accepted, refuse-if-accepted, refuse-if-true, refuse-if-false}
 use Rattle.record.proofs.Laws.Steps.{rules-refused, rules-rule, rules-end}
+
+-- the rules of a part, behind n that are held
+unfoldable countedOn : ℕ → Result Program → Reading
+countedOn n (accepted p) = Reading.Count (n + length p)
+countedOn n (refused x) = Reading.Refused x
 
 -- a step that is a rule, the end or a refusal is that record
 pub step-rule : (e : Result Entry) (size : ℕ) → stepOf e ≡ Step.Rule size → (r : Rule) × (e ≡ accepted (rule r size))
@@ -92,7 +97,7 @@ step-size F n t size e = let w = step-rule (recordAt F n t) size e in record-siz
 -- a rule more before a part is a rule more counted
 counted-cons : (n : ℕ) (r : Rule) (q : Result Program) → countedOn n (andThen q (λ p. accepted (r ∷ p))) ≡ countedOn (n + 1) q
 unfolding countedOn andThen
-counted-cons n r (accepted p) = ap Reading.Rules more
+counted-cons n r (accepted p) = ap Reading.Count more
   where
     more : n + length (r ∷ p) ≡ n + 1 + length p
     more = omega arith
@@ -110,7 +115,7 @@ module _ (F : Limits) (s : List ℕ) where
 
   read-counted : (q : Result Program) → readingOf q ≡ countedOn 0 q
   unfolding readingOf countedOn
-  read-counted (accepted p) = ap Reading.Rules (sym (zero-add (length p)))
+  read-counted (accepted p) = ap Reading.Count (sym (zero-add (length p)))
   read-counted (refused x) = refl
 
   pub reading-left : length s ≤ F .length → reading F s ≡ left F s 0 0
@@ -135,12 +140,12 @@ module _ (F : Limits) (s : List ℕ) where
         ∙ counted-cons n (w .0) (rulesFrom F (length s + 1 - (n + 1)) (drop size (drop at s)) (at + size) (n + 1))
         ∙ ap (λ (t : List ℕ). countedOn (n + 1) (rulesFrom F (length s + 1 - (n + 1)) t (at + size) (n + 1))) (drop-drop size at s)
 
-    pub left-end : stepOf (recordAt F n (drop at s)) ≡ Step.End → left F s at n ≡ Reading.Rules n
+    pub left-end : stepOf (recordAt F n (drop at s)) ≡ Step.End → left F s at n ≡ Reading.Count n
     unfolding left countedOn
     left-end e =
         ap (λ (f : ℕ). countedOn n (rulesFrom F f (drop at s) at n)) fuel-more
         ∙ ap (countedOn n) (rules-end F (length s + 1 - (n + 1)) (drop at s) at n (step-end (recordAt F n (drop at s)) e))
-        ∙ ap Reading.Rules (add-zero n)
+        ∙ ap Reading.Count (add-zero n)
 
     pub left-refused : (x : Refusal) → stepOf (recordAt F n (drop at s)) ≡ Step.Refused x → left F s at n ≡ Reading.Refused (shifted at x)
     unfolding left countedOn

@@ -15,7 +15,7 @@ use Rattle.buffer.specs.Bytes.{Bytes}
 use Rattle.literal.specs.declared.Limits.{Limits}
 use Rattle.semantics.specs.Rule.{Program}
 use Rattle.semantics.specs.Form.{keepsRule, keepsRules}
-use Rattle.semantics.specs.Set.{all}
+use Rattle.semantics.specs.Set.{eachOf}
 use Rattle.semantics.proofs.Laws.Tests.{both, first, second}
 use Rattle.semantics.proofs.Laws.Form.{keeps-count, keeps-each}
 use Rattle.record.specs.declared.Refusal.{Refusal}
@@ -28,16 +28,17 @@ use Rattle.record.proofs.Laws.Layout.{rules-below-length}
 use Rattle.record.proofs.Laws.Sound.{rules-sound}
 use Rattle.record.proofs.Laws.Complete.{rules-complete}
 
--- the program that reading counted
-pub read-rules : (q : Result Program) (k : ℕ) → readingOf q ≡ Reading.Rules k → (p : Program) × (q ≡ accepted p) × (length p ≡ k)
-unfolding readingOf
-read-rules (accepted p) k e = let n : length p ≡ k = cc in (p, refl, n)
-read-rules (refused x) k e = let z : _≡_ {A = ℕ} 0 1 = cc in absurd (omega arith)
+-- the rules, or the literals, that reading counted
+module _ {A : Type 0} where
+  pub read-count : (q : Result (List A)) (k : ℕ) → readingOf q ≡ Reading.Count k → (xs : List A) × (q ≡ accepted xs) × (length xs ≡ k)
+  unfolding readingOf
+  read-count (accepted xs) k e = let n : length xs ≡ k = cc in (xs, refl, n)
+  read-count (refused x) k e = let z : _≡_ {A = ℕ} 0 1 = cc in absurd (omega arith)
 
-pub read-refused : (q : Result Program) (x : Refusal) → readingOf q ≡ Reading.Refused x → q ≡ refused x
-unfolding readingOf
-read-refused (accepted p) x e = let z : _≡_ {A = ℕ} 0 1 = cc in absurd (omega arith)
-read-refused (refused y) x e = let q : y ≡ x = cc in ap refused q
+  pub read-refused : (q : Result (List A)) (x : Refusal) → readingOf q ≡ Reading.Refused x → q ≡ refused x
+  unfolding readingOf
+  read-refused (accepted xs) x e = let z : _≡_ {A = ℕ} 0 1 = cc in absurd (omega arith)
+  read-refused (refused y) x e = let q : y ≡ x = cc in ap refused q
 
 module _ (F : Limits) where
   -- what is read is the encoding of a program within the limits
@@ -49,8 +50,8 @@ module _ (F : Limits) where
       let same = w .bytes ∙ ap (λ (n : ℕ). encodedRules p ++ encodedEnd n) (zero-add (length p)) in
       let short = subst (λ (bs : List ℕ). length bs ≤ F .length) same (ltb-false (F .length) (length b) (q .0)) in (
         same,
-        both (leb (length p) (F .rules) && all (keepsRule F) p) (leb (length (encodedProgram p)) (F .length))
-            (both (leb (length p) (F .rules)) (all (keepsRule F) p) (le→leb (length p) (F .rules) (omega (arith, w .room))) (w .keeps))
+        both (leb (length p) (F .rules) && eachOf (keepsRule F) p) (leb (length (encodedProgram p)) (F .length))
+            (both (leb (length p) (F .rules)) (eachOf (keepsRule F) p) (le→leb (length p) (F .rules) (omega (arith, w .room))) (w .keeps))
             (le→leb (length (encodedProgram p)) (F .length) short),
       )
 

@@ -9,7 +9,7 @@ use Rattle.literal.specs.declared.Literal.the-variants.{Signed}
 use Rattle.semantics.specs.Rule.{Rule, strict, defeasible}
 use Rattle.semantics.specs.Translation.{recordLength}
 use Rattle.record.specs.Layout.{ruleRecord, encodedRule}
-use Rattle.record.specs.Size.{recordSize}
+use Rattle.record.specs.Code.{recordSize}
 
 pub size-large : (t : List ℕ) → 7 ≤ recordSize t
 size-large t = omega arith

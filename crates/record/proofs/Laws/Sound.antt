@@ -19,11 +19,11 @@ use Rattle.literal.specs.declared.Limits.{Limits}
 use Rattle.literal.specs.declared.SignedAtom.{SignedAtom}
 use Rattle.literal.specs.declared.Literal.{Literal}
 use Rattle.literal.specs.declared.Literal.the-variants.{Signed, Defeated, Derived, RuleDefeated}
-use Rattle.literal.specs.declared.Decoded.{Decoded}
-use Rattle.literal.specs.declared.Decoded.the-variants.{Valid, Wrong}
+use Rattle.literal.specs.Literal.{Decoded}
+use Rattle.literal.specs.Literal.{Valid, Wrong}
 use Rattle.literal.specs.Literal.{encoded, decoded, takes, inRange}
 use Rattle.literal.proofs.Laws.Literal.{encoded-decoded}
-use Rattle.semantics.specs.Set.{all}
+use Rattle.semantics.specs.Set.{eachOf}
 use Rattle.semantics.specs.Rule.{Rule, strict, defeasible, Program, head, positive, naf}
 use Rattle.semantics.specs.Form.{keepsCounts, keepsLiterals, keepsTag, keepsRule}
 use Rattle.semantics.proofs.Laws.Tests.{both, first, second, along, all-append}
@@ -39,7 +39,7 @@ use Rattle.record.proofs.Laws.Result.{refused-accepted, accepted-eq, an
 -- a run of n literals
 pub record Run (F : Limits) (bs : List ℕ) (n : ℕ) (ls : List Literal) : Type 0 where
   pub bytes : take (5 * n) bs ≡ encodedLiterals ls
-  pub taken : T (all (takes F) ls)
+  pub taken : T (eachOf (takes F) ls)
   pub count : length ls ≡ n
 
 run-cons : (F : Limits) (bs : List ℕ) (n : ℕ) (l : Literal) (ls : List Literal) → (take 5 bs ≡ encoded l) × T (takes F l) → Run F (drop 5 bs) n ls → Run F bs (suc n) (l ∷ ls)
@@ -47,7 +47,7 @@ unfolding encodedLiterals
 run-cons F bs n l ls h r =
     record {
       bytes = ap (λ (k : ℕ). take k bs) five-more ∙ take-add 5 (5 * n) bs ∙ ap₂ (λ (x y : List ℕ). x ++ y) (h .0) (r .bytes);
-      taken = both (takes F l) (all (takes F) ls) (h .1) (r .taken);
+      taken = both (takes F l) (eachOf (takes F) ls) (h .1) (r .taken);
       count = ap suc (r .count);
     }
   where
@@ -61,7 +61,7 @@ module _ (F : Limits) where
       let nil : [] ≡ ls = accepted-eq e in
       record {
         bytes = ap encodedLiterals nil;
-        taken = subst (λ (ms : List Literal). T (all (takes F) ms)) nil tt;
+        taken = subst (λ (ms : List Literal). T (eachOf (takes F) ms)) nil tt;
         count = ap length (sym nil);
       }
   literals-sound t bytes (suc n) at ls fits e =
@@ -188,10 +188,10 @@ module _ (h b c : ℕ) (ls : List Literal) (count : length ls ≡ h + b + c) whe
   unfolding ruleRecord
   split-record l tag = simp (split-heads, split-positives, split-nafs, split-whole)
 
-  split-literals : (F : Limits) → T (all (takes F) ls) → T (all (takes F) heads && (all (takes F) positives && all (takes F) nafs))
+  split-literals : (F : Limits) → T (eachOf (takes F) ls) → T (eachOf (takes F) heads && (eachOf (takes F) positives && eachOf (takes F) nafs))
   split-literals F y =
-      along (all-append (takes F) heads (positives ++ nafs) ∙ ap (λ (x : Bool). all (takes F) heads && x) (all-append (takes F) positives nafs))
-      (subst (λ (ms : List Literal). T (all (takes F) ms)) (sym split-whole) y)
+      along (all-append (takes F) heads (positives ++ nafs) ∙ ap (λ (x : Bool). eachOf (takes F) heads && x) (all-append (takes F) positives nafs))
+      (subst (λ (ms : List Literal). T (eachOf (takes F) ms)) (sym split-whole) y)
 
 -- an accepted defeasible rule
 record DefeasibleIs (tag : ℕ) (hs bs cs : List Literal) (r : Rule) : Type 0 where
@@ -217,7 +217,7 @@ record RuleIs (F : Limits) (bs : List ℕ) (r : Rule) : Type 0 where
   keeps : T (keepsRule F r)
 
 -- the rule of a record whose header and literals are right
-module _ (F : Limits) (tag h b c : ℕ) (ls : List Literal) (count : length ls ≡ h + b + c) (counts : T (keepsCounts F h b c)) (taken : T (all (takes F) ls)) where
+module _ (F : Limits) (tag h b c : ℕ) (ls : List Literal) (count : length ls ≡ h + b + c) (counts : T (keepsCounts F h b c)) (taken : T (eachOf (takes F) ls)) where
   hs : List Literal
   hs = heads h b c ls count
 
@@ -237,7 +237,7 @@ module _ (F : Limits) (tag h b c : ℕ) (ls : List Literal) (count : length ls �
       record {
         bytes = ap (λ (n : ℕ). ruleRecord 0x53 n hs bs cs) (sym e) ∙ split-record h b c ls count 0x53 tag;
         keeps =
-            both (keepsCounts F (length hs) (length bs) (length cs)) (all (takes F) hs && (all (takes F) bs && all (takes F) cs))
+            both (keepsCounts F (length hs) (length bs) (length cs)) (eachOf (takes F) hs && (eachOf (takes F) bs && eachOf (takes F) cs))
             (counted (length hs) (split-heads h b c ls count)) (split-literals h b c ls count F taken);
       }
 
@@ -248,12 +248,12 @@ module _ (F : Limits) (tag h b c : ℕ) (ls : List Literal) (count : length ls �
       record {
         bytes = ap (λ (ms : List Literal). ruleRecord 0x44 tag ms bs cs) e ∙ split-record h b c ls count 0x44 tag;
         keeps =
-            both (F .defeasible && (inRange (F .tags) tag && leb 1 (length os))) (keepsCounts F (length (map Signed os)) (length bs) (length cs) && (all (takes F) (map Signed os) && (all (takes F) bs && all (takes F) cs)))
+            both (F .defeasible && (inRange (F .tags) tag && leb 1 (length os))) (keepsCounts F (length (map Signed os)) (length bs) (length cs) && (eachOf (takes F) (map Signed os) && (eachOf (takes F) bs && eachOf (takes F) cs)))
             (both (F .defeasible) (inRange (F .tags) tag && leb 1 (length os)) form
             (both (inRange (F .tags) tag) (leb 1 (length os)) range (le→leb 1 (length os) (omega (arith, options, split-heads h b c ls count)))))
-            (both (keepsCounts F (length (map Signed os)) (length bs) (length cs)) (all (takes F) (map Signed os) && (all (takes F) bs && all (takes F) cs))
+            (both (keepsCounts F (length (map Signed os)) (length bs) (length cs)) (eachOf (takes F) (map Signed os) && (eachOf (takes F) bs && eachOf (takes F) cs))
             (counted (length (map Signed os)) (ap length e ∙ split-heads h b c ls count))
-            (subst (λ (ms : List Literal). T (all (takes F) ms && (all (takes F) bs && all (takes F) cs))) (sym e) (split-literals h b c ls count F taken)));
+            (subst (λ (ms : List Literal). T (eachOf (takes F) ms && (eachOf (takes F) bs && eachOf (takes F) cs))) (sym e) (split-literals h b c ls count F taken)));
       }
     where
       options : length os ≡ length hs
@@ -357,7 +357,7 @@ end-sound n t bytes m e q =
 -- an accepted program: its bytes, and that its rules are within the form's limits
 pub record ProgramRead (F : Limits) (n : ℕ) (t : List ℕ) (p : Program) : Type 0 where
   pub bytes : t ≡ encodedRules p ++ encodedEnd (n + length p)
-  pub keeps : T (all (keepsRule F) p)
+  pub keeps : T (eachOf (keepsRule F) p)
   pub room : n + length p ≤ F .rules
 
 program-cons : (F : Limits) (n : ℕ) (t : List ℕ) (r : Rule) (size : ℕ) (p : Program) → RuleRead F n t r size → ProgramRead F (n + 1) (drop size t) p → ProgramRead F n t (r ∷ p)
@@ -368,7 +368,7 @@ program-cons F n t r size p here rest =
           sym (take-append-drop size t)
           ∙ ap₂ (λ (x y : List ℕ). x ++ y) (here .bytes) (rest .bytes ∙ ap (λ (k : ℕ). encodedRules p ++ encodedEnd k) next)
           ∙ sym (append-assoc (encodedRule r) (encodedRules p) (encodedEnd (n + length (r ∷ p))));
-      keeps = both (keepsRule F r) (all (keepsRule F) p) (here .keeps) (rest .keeps);
+      keeps = both (keepsRule F r) (eachOf (keepsRule F) p) (here .keeps) (rest .keeps);
       room = omega (arith, rest .room);
     }
   where

@@ -10,13 +10,13 @@ use lib.Seq.{length-take-le}
 use borrow.Author.Tests.{eq-eqb, ne-eqb}
 use Rattle.literal.specs.declared.Literal.{Literal}
 use Rattle.record.specs.Layout.{encodedLiterals}
-use Rattle.record.specs.Size.{recordSize}
+use Rattle.record.specs.Code.{recordSize}
 use Rattle.record.proofs.Laws.Layout.{length-encoded-literals}
-use Rattle.litset.specs.Keys.{anyKey}
-use Rattle.emit.specs.Header.{header}
+use Rattle.litset.specs.Code.{anyKey}
+use Rattle.emit.specs.Code.{header}
 use Rattle.emit.proofs.Laws.Stores.{length-header}
-use Rattle.remains.specs.Left.{leftAt}
-use Rattle.remainder.specs.Remainder.{strictBytes, optionBytes, remainderAt}
+use Rattle.remains.specs.Code.{leftAt}
+use Rattle.remainder.specs.Code.{strictBytes, optionBytes, remainderAt}
 
 module _ (t k : List ℕ) (m : ℕ) where
   -- a naf literal is in the set: nothing is left

@@ -10,10 +10,10 @@ use Rattle.literal.specs.declared.SignedAtom.{SignedAtom}
 use Rattle.literal.specs.declared.Literal.the-variants.{Signed, Defeated}
 use Rattle.semantics.specs.Meaning.{undefeated}
 use Rattle.semantics.proofs.Laws.Meaning.{undefeated-cons, undefeated-few}
-use Rattle.litset.specs.Keys.{keySet}
-use Rattle.emit.specs.Options.{tagAt, optionAt, optionsAt}
+use Rattle.litset.specs.Code.{keySet}
+use Rattle.emit.specs.Code.{tagAt, optionAt, optionsAt}
 use Rattle.emit.proofs.Laws.Options.{length-options-at, options-first, options-none}
-use Rattle.remains.specs.Left.{leftAt}
+use Rattle.remains.specs.Code.{leftAt}
 
 module _ (t k : List ℕ) (m : ℕ) where
   -- an option that is defeated

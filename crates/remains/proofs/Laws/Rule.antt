@@ -8,20 +8,20 @@ use lib.ListN.{length, getD, drop}
 use Rattle.literal.specs.declared.Tag.{Tag}
 use Rattle.literal.specs.declared.SignedAtom.{SignedAtom}
 use Rattle.literal.specs.declared.Literal.{Literal}
-use Rattle.semantics.specs.Set.{any}
+use Rattle.semantics.specs.Set.{someOf}
 use Rattle.semantics.specs.Rule.{defeasible}
 use Rattle.semantics.specs.Meaning.{undefeated}
-use Rattle.litset.specs.Keys.{keySet, anyKey}
+use Rattle.litset.specs.Code.{keySet, anyKey}
 use Rattle.litset.proofs.Laws.Member.{any-key-literals}
-use Rattle.emit.specs.Starts.{Starts}
+use Rattle.emit.specs.Code.{Starts}
 use Rattle.emit.proofs.Laws.Fields.{Fields, literals-next}
 use Rattle.emit.proofs.Laws.Options.{rule-options, rule-tag}
-use Rattle.remains.specs.Left.{leftAt}
+use Rattle.remains.specs.Code.{leftAt}
 
 module _ (t k : List ℕ) (m : ℕ) where
   -- one of the rule's naf literals is in the set where one of the record's is
   pub nafs-met : (letter tag : ℕ) (h b c : List Literal) (rest : List ℕ) → Fields t letter tag h b c rest
-      → anyKey k m (getD t 6 0) t (7 + 5 * (getD t 4 0 + getD t 5 0)) ≡ any (keySet k m) c
+      → anyKey k m (getD t 6 0) t (7 + 5 * (getD t 4 0 + getD t 5 0)) ≡ someOf (keySet k m) c
   nafs-met letter tag h b c rest f =
       let place : 7 + 5 * (length h + length b) ≡ 7 + 5 * length h + 5 * length b = omega arith in
       rw (f .nafs, f .heads, f .positives)

@@ -7,7 +7,7 @@ use mathlib.Core.Path.{_≡_, sym, _∙_, ap}
 use mathlib.Core.List.{List}
 use lib.ListN.{getD}
 use borrow.Author.Tests.{le-leb, lt-leb}
-use Rattle.restrict.specs.Restrict.{sourceFront}
+use Rattle.restrict.specs.Code.{sourceFront}
 
 -- none is held yet
 pub front-start : (s : List ℕ) (at count : ℕ) → sourceFront s at count ≡ 0 + sourceFront s at (count - 0)

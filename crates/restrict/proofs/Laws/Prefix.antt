@@ -17,14 +17,16 @@ use Rattle.literal.specs.declared.SignedAtom.the-variants.{Positive, Negative}
 use Rattle.literal.specs.declared.Literal.{Literal}
 use Rattle.literal.specs.declared.Literal.the-variants.{Signed, Defeated, Derived, RuleDefeated}
 use Rattle.literal.specs.Literal.{kind, encoded}
-use Rattle.literal.specs.Order.{key, keyOf, keyAt}
+use Rattle.literal.specs.Order.{key, keyOf}
+use Rattle.literal.specs.Code.{keyAt}
 use Rattle.semantics.specs.Extension.{sourceKind}
 use Rattle.semantics.proofs.Laws.Tests.{first, second}
 use Rattle.record.specs.Layout.{encodedLiterals}
 use Rattle.record.proofs.Laws.Layout.{encoded-literals-append, length-encoded-literals}
 use Rattle.litset.proofs.Laws.Above.{above}
 use Rattle.litset.proofs.Laws.Keys.{key-here, keys-behind}
-use Rattle.restrict.specs.Restrict.{restrictionList, sourceFront}
+use Rattle.restrict.specs.Restrict.{restrictionList}
+use Rattle.restrict.specs.Code.{sourceFront}
 use Rattle.restrict.proofs.Laws.Restriction.{restriction-kept, restriction-dropped}
 
 -- the kinds of source literals are 0 to 3

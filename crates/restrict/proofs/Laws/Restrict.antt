@@ -22,15 +22,15 @@ use Rattle.record.specs.Meets.{Meets}
 use Rattle.record.specs.Layout.{encodedLiterals}
 use Rattle.record.proofs.Laws.Result.{accepted-and-then, refused-and-then}
 use Rattle.record.proofs.Laws.Delivered.{meets-refused, meets-short, meets-written}
-use Rattle.litset.specs.declared.SetReading.{SetReading}
+use Rattle.record.specs.declared.Reading.{Reading}
 use Rattle.litset.specs.Layout.{encodedSet}
-use Rattle.litset.specs.Reading.{parsedSet, setReading}
+use Rattle.litset.specs.Reading.{parsedSet}
+use Rattle.litset.specs.Code.{setReading, setHeader}
 use Rattle.litset.proofs.Laws.Above.{ascending-above}
 use Rattle.litset.proofs.Laws.Reading.{keeps-set-ascending, keeps-set-taken, keeps-set-count, parsed-set-sound, length-encoded-set, length-parsed-set}
 use Rattle.litset.proofs.Laws.Keys.{literals-lie}
-use Rattle.litset.specs.Answer.{setRefusal}
-use Rattle.litset.specs.Header.{setHeader}
-use Rattle.restrict.specs.Restrict.{restrictionList, restrictionBytes, restricted, sourceFront}
+use Rattle.restrict.specs.Restrict.{restrictionList, restrictionBytes, restricted}
+use Rattle.restrict.specs.Code.{sourceFront}
 use Rattle.litset.proofs.Laws.Answered.{set-refused, set-literals}
 use Rattle.litset.proofs.Laws.Header.{set-written}
 use Rattle.restrict.proofs.Laws.Prefix.{restriction-front, restriction-bytes}
@@ -61,13 +61,13 @@ module _ (F : Limits) (k : List ℕ) where
       ∙ accepted-and-then ls (λ ms. accepted (encodedSet (restrictionList ms)))
 
   -- the slice of a set that was read is as long as its literals
-  pub read-whole : Bytes k → (n : ℕ) → setReading F (F .literals) k ≡ SetReading.Literals n → length k ≡ 4 + 5 * n
+  pub read-whole : Bytes k → (n : ℕ) → setReading F (F .literals) k ≡ Reading.Count n → length k ≡ 4 + 5 * n
   read-whole bytes n e =
       let w = set-literals F (F .literals) k n e in
       omega (arith, length-parsed-set F (F .literals) k (w .0) bytes (w .1), w .2)
 
   -- and what is counted of it is what is kept
-  pub read-held : Bytes k → (n m : ℕ) → setReading F (F .literals) k ≡ SetReading.Literals n → m ≡ sourceFront k 4 n → Held F k n m
+  pub read-held : Bytes k → (n m : ℕ) → setReading F (F .literals) k ≡ Reading.Count n → m ≡ sourceFront k 4 n → Held F k n m
   read-held bytes n m e c =
       let w = set-literals F (F .literals) k n e in
       let ls = w .0 in
@@ -89,12 +89,9 @@ module _ (F : Limits) (k : List ℕ) where
 
   module _ (out : List ℕ) where
     -- 10, 12, 11
-    pub restricted-refused : {a : SetReading} {r : Written} {x : Refusal} → a ≡ setReading F (F .literals) k → a ≡ SetReading.Refused x
-        → r ≡ setRefusal a → Meets (restricted F k out) r out
-    unfolding restricted setRefusal
-    restricted-refused {a} {r} {x} e told answer =
-        rw (answer ∙ ap setRefusal told)
-        (meets-refused (restrictionBytes F k) out x (bytes-refused x (set-refused F (F .literals) k x (sym e ∙ told))))
+    pub restricted-refused : {x : Refusal} → setReading F (F .literals) k ≡ Reading.Refused x → Meets (restricted F k out) (Refused x) out
+    unfolding restricted
+    restricted-refused {x} e = meets-refused (restrictionBytes F k) out x (bytes-refused x (set-refused F (F .literals) k x e))
 
     module _ {n m : ℕ} (h : Held F k n m) where
       long : length (encodedSet (restrictionList (h .literals))) ≡ 4 + 5 * m

@@ -12,7 +12,7 @@ use Rattle.buffer.specs.Bytes.{Bytes}
 use Rattle.buffer.specs.Write.{write}
 use Rattle.buffer.proofs.Laws.Next.{write-left}
 use Rattle.literal.specs.declared.Limits.{Limits}
-use Rattle.semantics.specs.Set.{all}
+use Rattle.semantics.specs.Set.{eachOf}
 use Rattle.semantics.specs.Rule.{Rule, strict, defeasible, Program}
 use Rattle.semantics.specs.Form.{keepsRule, keepsRules}
 use Rattle.semantics.specs.Translation.{translatedRule, translationFrom, translation, translationLength, recordLength, translatedLengths, translatedCount}
@@ -20,15 +20,15 @@ use Rattle.semantics.proofs.Laws.Tests.{first, second}
 use Rattle.semantics.proofs.Laws.Form.{keeps-each}
 use Rattle.semantics.proofs.Laws.Length.{rule-count}
 use Rattle.record.specs.Layout.{encodedRules, encodedEnd, encodedProgram, keeps}
-use Rattle.record.specs.Size.{recordSize}
+use Rattle.record.specs.Code.{recordSize}
 use Rattle.record.proofs.Laws.Reading.{parsed-sound}
-use Rattle.emit.specs.Starts.{Starts, Stands}
+use Rattle.emit.specs.Code.{Starts}
+use Rattle.emit.proofs.Laws.Stands.{Stands, More, stands-open, stands-end, stands-more, stands-start}
 use Rattle.emit.proofs.Laws.Fields.{naf-count}
-use Rattle.emit.proofs.Laws.Stands.{More, stands-open, stands-end, stands-more, stands-start}
 use Rattle.option_rules.proofs.Laws.Options.{encoded-rules-append}
-use Rattle.expand.specs.Writing.{lengthAt, countAt}
+use Rattle.expand.specs.Code.{lengthAt, countAt}
 use Rattle.expand.proofs.Laws.Sizes.{told, length-translated}
-use Rattle.rewrite.specs.Pass.{Translatable}
+use Rattle.rewrite.specs.Code.{Translatable}
 
 -- three rules at most for five bytes of a record, which has seven at least
 few-rules : (r : Rule) → 5 * translatedCount r ≤ 3 * recordLength r
@@ -60,7 +60,7 @@ pub record Left (F : Limits) (s goal out : List ℕ) (at n made to : ℕ) : Type
   pub rules : Program
   pub counted : ℕ
   pub bytes : Stands s at rules counted
-  pub keeps : T (all (keepsRule F) rules)
+  pub keeps : T (eachOf (keepsRule F) rules)
   pub room : to + (translatedLengths rules + 4) ≤ length out
   pub written : goal ≡ write out to (rest n made rules)
 
@@ -88,7 +88,7 @@ module _ (F : Limits) (s goal out : List ℕ) (at n made to : ℕ) where
   )
 
   -- a rule's record, and what is left behind it
-  next-rule : (p : Program) (m : ℕ) (w : More s at p m) → T (all (keepsRule F) (w .the-rule ∷ w .behind)) → to + (translatedLengths (w .the-rule ∷ w .behind) + 4) ≤ length out
+  next-rule : (p : Program) (m : ℕ) (w : More s at p m) → T (eachOf (keepsRule F) (w .the-rule ∷ w .behind)) → to + (translatedLengths (w .the-rule ∷ w .behind) + 4) ≤ length out
       → goal ≡ write out to (rest n made (w .the-rule ∷ w .behind)) → Next F s goal out at n made to
   unfolding translatedLengths
   next-rule p m w keeps room written =
@@ -98,7 +98,7 @@ module _ (F : Limits) (s goal out : List ℕ) (at n made to : ℕ) where
         the-rule = r;
         starts = w .starts;
         fits = w .fits;
-        nafs = naf-count F (drop at s) r (w .starts) (first (keepsRule F r) (all (keepsRule F) (w .behind)) keeps);
+        nafs = naf-count F (drop at s) r (w .starts) (first (keepsRule F r) (eachOf (keepsRule F) (w .behind)) keeps);
         room = omega (arith, k .long);
         few = omega (arith, w .size, k .count, few-rules r);
         next = λ e done same.
@@ -106,7 +106,7 @@ module _ (F : Limits) (s goal out : List ℕ) (at n made to : ℕ) where
               rules = w .behind;
               counted = m;
               bytes = w .next;
-              keeps = second (keepsRule F r) (all (keepsRule F) (w .behind)) keeps;
+              keeps = second (keepsRule F r) (eachOf (keepsRule F) (w .behind)) keeps;
               room = omega (arith, k .long, same);
               written =
                   written ∙ ap (write out to) (rest-rule n made r (w .behind))
@@ -119,7 +119,7 @@ module _ (F : Limits) (s goal out : List ℕ) (at n made to : ℕ) where
   pub left-next : Left F s goal out at n made to → (getD s at 0 ≡ 0x45 → ⊥) → Next F s goal out at n made to
   left-next l e =
       let w = stands-more s at (l .rules) (l .counted) (l .bytes) e in
-      let v = subst (λ (p : Program). T (all (keepsRule F) p) × (to + (translatedLengths p + 4) ≤ length out) × (goal ≡ write out to (rest n made p))) (w .same) (l .keeps, l .room, l .written) in
+      let v = subst (λ (p : Program). T (eachOf (keepsRule F) p) × (to + (translatedLengths p + 4) ≤ length out) × (goal ≡ write out to (rest n made p))) (w .same) (l .keeps, l .room, l .written) in
       next-rule (l .rules) (l .counted) w (v .0) (v .1) (v .2)
 
 -- at the start the whole program is left

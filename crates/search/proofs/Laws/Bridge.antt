@@ -11,17 +11,18 @@ use lib.ListN.{length, getD, take, length-take}
 use lib.Pow.{pow-pos}
 use lib.Seq.{getD-take}
 use Rattle.literal.specs.declared.Literal.{Literal}
-use Rattle.semantics.specs.Set.{all, setOf}
+use Rattle.semantics.specs.Set.{eachOf, setOf}
 use Rattle.semantics.specs.Rule.{Remainder}
 use Rattle.semantics.specs.Meaning.{models}
 use Rattle.semantics.specs.Verdict.{firstSubset, smallerModel}
 use Rattle.semantics.proofs.Laws.Tests.{both, first, second, fails, refuted, all-intro}
 use Rattle.semantics.proofs.Laws.Set.{set-of-mem}
 use Rattle.mask.proofs.Laws.Place.{within-ones, ones-within}
-use Rattle.narrow.specs.Clause.{Holds, Smaller}
-use Rattle.narrow.specs.Picked.{distinct, picked, bodiesOf, headsOf}
+use Rattle.narrow.specs.Code.{Holds, Smaller, bodiesOf, headsOf}
+use Rattle.narrow.proofs.Laws.Build.{distinct, picked}
 use Rattle.search.specs.declared.Found.{Found}
-use Rattle.search.specs.Search.{First, foundIn}
+use Rattle.search.specs.Code.{First}
+use Rattle.search.proofs.Laws.Found.{foundIn}
 use Rattle.search.proofs.Laws.Picked.{first-picked}
 use Rattle.search.proofs.Laws.Clause.{models-clauses, clauses-models}
 use Rattle.search.proofs.Laws.Whole.{picked-whole, whole-picked}
@@ -48,8 +49,8 @@ module _ (ls : List Literal) (d : T (distinct ls)) (qs : List Remainder) (bodies
   smaller-passes : (x : ℕ) → Smaller whole bodies heads n x → T (smallerModel qs ls (picked x ls))
   unfolding smallerModel
   smaller-passes x s =
-      both (not (all (setOf (picked x ls)) ls)) (models qs (setOf (picked x ls)))
-      (refuted (all (setOf (picked x ls)) ls)
+      both (not (eachOf (setOf (picked x ls)) ls)) (models qs (setOf (picked x ls)))
+      (refuted (eachOf (setOf (picked x ls)) ls)
       (λ t. s .proper (omega (arith, whole-picked x ls d t, mod-eq-of-lt (smaller-lt x s)))))
       (clauses-models x ls d qs (λ i h. at i (subst (λ (k : ℕ). i < k) count h)))
     where
@@ -62,19 +63,19 @@ module _ (ls : List Literal) (d : T (distinct ls)) (qs : List Remainder) (bodies
   passes-smaller x h t =
       record {
         within = ones-within (length ls) x h;
-        proper = λ e. fails (all (setOf (picked x ls)) ls) (first (not (all (setOf (picked x ls)) ls)) (models qs (setOf (picked x ls))) t) (everything e);
+        proper = λ e. fails (eachOf (setOf (picked x ls)) ls) (first (not (eachOf (setOf (picked x ls)) ls)) (models qs (setOf (picked x ls))) t) (everything e);
         clauses = at;
       }
     where
-      everything : x ≡ whole → T (all (setOf (picked x ls)) ls)
+      everything : x ≡ whole → T (eachOf (setOf (picked x ls)) ls)
       everything e =
-          subst (λ (s : List Literal). T (all (setOf s) ls)) (sym (picked-whole x ls (omega (arith, mod-eq-of-lt h, pow-pos (length ls)))))
+          subst (λ (s : List Literal). T (eachOf (setOf s) ls)) (sym (picked-whole x ls (omega (arith, mod-eq-of-lt h, pow-pos (length ls)))))
           (all-intro (setOf ls) ls (λ l m. set-of-mem m))
 
       at : (i : ℕ) → i < n → Holds (getD bodies i 0) (getD heads i 0) x
       at i l =
           subst₂ (λ (b c : ℕ). Holds b c x) (body-at i l) (head-at i l)
-          (models-clauses x ls d qs (second (not (all (setOf (picked x ls)) ls)) (models qs (setOf (picked x ls))) t) i (subst (λ (k : ℕ). i < k) (sym count) l))
+          (models-clauses x ls d qs (second (not (eachOf (setOf (picked x ls)) ls)) (models qs (setOf (picked x ls))) t) i (subst (λ (k : ℕ). i < k) (sym count) l))
 
   -- the smallest is the first smaller model
   pub first-smaller-model : (r : Found) → First (Smaller whole bodies heads n) r → firstSubset ls (smallerModel qs ls) ≡ foundIn ls r

@@ -9,13 +9,13 @@ use mathlib.Core.Logic.{⊎-elim}
 use lib.Dec.{T}
 use lib.ListN.{length, getD}
 use Rattle.literal.specs.declared.Literal.{Literal}
-use Rattle.semantics.specs.Set.{LiteralSet, any, all, setOf}
+use Rattle.semantics.specs.Set.{LiteralSet, someOf, eachOf, setOf}
 use Rattle.semantics.specs.Rule.{Remainder}
 use Rattle.semantics.specs.Meaning.{holds, models}
 use Rattle.semantics.proofs.Laws.Tests.{both, first, second, left, right, either, fails, refuted, decide, along, all-mem, all-intro}
 use Rattle.semantics.proofs.Laws.Part.{part-subset}
-use Rattle.narrow.specs.Clause.{Holds}
-use Rattle.narrow.specs.Picked.{distinct, picked, masksOf, bodiesOf, headsOf}
+use Rattle.narrow.specs.Code.{Holds, masksOf, bodiesOf, headsOf}
+use Rattle.narrow.proofs.Laws.Build.{distinct, picked}
 use Rattle.search.proofs.Laws.Picked.{picked-part}
 use Rattle.search.proofs.Laws.Union.{all-within, within-all, any-meets, none-apart}
 
@@ -24,26 +24,26 @@ module _ (x : ℕ) (ls : List Literal) (d : T (distinct ls)) where
   u = setOf (picked x ls)
 
   -- a rule whose positive literals are all in the list
-  pub holds-clause : (q : Remainder) → T (all (setOf ls) (q .positive)) → T (holds q u) → Holds (masksOf ls (q .positive)) (masksOf ls (q .head)) x
+  pub holds-clause : (q : Remainder) → T (eachOf (setOf ls) (q .positive)) → T (holds q u) → Holds (masksOf ls (q .positive)) (masksOf ls (q .head)) x
   unfolding holds
   holds-clause q y t w a =
-      ⊎-elim (λ n. fails (all u (q .positive)) n (within-all x ls d (q .positive) y w)) (λ s. any-meets x ls d (q .head) s a)
-      (either (not (all u (q .positive))) (any u (q .head)) t)
+      ⊎-elim (λ n. fails (eachOf u (q .positive)) n (within-all x ls d (q .positive) y w)) (λ s. any-meets x ls d (q .head) s a)
+      (either (not (eachOf u (q .positive))) (someOf u (q .head)) t)
 
-  pub clause-holds : (q : Remainder) → T (all (setOf ls) (q .positive)) → Holds (masksOf ls (q .positive)) (masksOf ls (q .head)) x → T (holds q u)
+  pub clause-holds : (q : Remainder) → T (eachOf (setOf ls) (q .positive)) → Holds (masksOf ls (q .positive)) (masksOf ls (q .head)) x → T (holds q u)
   unfolding holds
   clause-holds q y h =
       ⊎-elim
-      (λ p. ⊎-elim (λ t. right (not (all u (q .positive))) (any u (q .head)) t)
-      (λ n. absurd (h (all-within x ls d (q .positive) p) (none-apart x ls d (q .head) n))) (decide (any u (q .head))))
-      (λ n. left (not (all u (q .positive))) (any u (q .head)) (refuted (all u (q .positive)) n)) (decide (all u (q .positive)))
+      (λ p. ⊎-elim (λ t. right (not (eachOf u (q .positive))) (someOf u (q .head)) t)
+      (λ n. absurd (h (all-within x ls d (q .positive) p) (none-apart x ls d (q .head) n))) (decide (someOf u (q .head))))
+      (λ n. left (not (eachOf u (q .positive))) (someOf u (q .head)) (refuted (eachOf u (q .positive)) n)) (decide (eachOf u (q .positive)))
 
   -- any other holds in each part
-  pub left-out : (q : Remainder) → (T (all (setOf ls) (q .positive)) → ⊥) → T (holds q u)
+  pub left-out : (q : Remainder) → (T (eachOf (setOf ls) (q .positive)) → ⊥) → T (holds q u)
   unfolding holds
   left-out q n =
-      left (not (all u (q .positive))) (any u (q .head))
-      (refuted (all u (q .positive)) (λ t. n (all-intro (setOf ls) (q .positive) (λ l m. part-subset (picked-part x ls) l (all-mem u t m)))))
+      left (not (eachOf u (q .positive))) (someOf u (q .head))
+      (refuted (eachOf u (q .positive)) (λ t. n (all-intro (setOf ls) (q .positive) (λ l m. part-subset (picked-part x ls) l (all-mem u t m)))))
 
   -- each clause of a list holds in x
   abbrev Each : List ℕ → List ℕ → Type 0
@@ -61,9 +61,9 @@ module _ (x : ℕ) (ls : List Literal) (d : T (distinct ls)) where
   unfolding models bodiesOf headsOf
   models-clauses [] t = none-left
   models-clauses (q ∷ qs) t =
-      go (all (setOf ls) (q .positive)) refl (first (holds q u) (models qs u) t) (models-clauses qs (second (holds q u) (models qs u) t))
+      go (eachOf (setOf ls) (q .positive)) refl (first (holds q u) (models qs u) t) (models-clauses qs (second (holds q u) (models qs u) t))
     where
-      go : (b : Bool) → all (setOf ls) (q .positive) ≡ b → T (holds q u) → Each (bodiesOf ls qs) (headsOf ls qs)
+      go : (b : Bool) → eachOf (setOf ls) (q .positive) ≡ b → T (holds q u) → Each (bodiesOf ls qs) (headsOf ls qs)
           → Each (cond b (masksOf ls (q .positive) ∷ bodiesOf ls qs) (bodiesOf ls qs)) (cond b (masksOf ls (q .head) ∷ headsOf ls qs) (headsOf ls qs))
       go true e s ih =
           one-more (masksOf ls (q .positive)) (masksOf ls (q .head)) (bodiesOf ls qs) (headsOf ls qs) (holds-clause q (along (sym e) tt) s) ih
@@ -72,9 +72,9 @@ module _ (x : ℕ) (ls : List Literal) (d : T (distinct ls)) where
   pub clauses-models : (qs : List Remainder) → Each (bodiesOf ls qs) (headsOf ls qs) → T (models qs u)
   unfolding models bodiesOf headsOf
   clauses-models [] h = tt
-  clauses-models (q ∷ qs) h = go (all (setOf ls) (q .positive)) refl h (clauses-models qs)
+  clauses-models (q ∷ qs) h = go (eachOf (setOf ls) (q .positive)) refl h (clauses-models qs)
     where
-      go : (b : Bool) → all (setOf ls) (q .positive) ≡ b
+      go : (b : Bool) → eachOf (setOf ls) (q .positive) ≡ b
           → Each (cond b (masksOf ls (q .positive) ∷ bodiesOf ls qs) (bodiesOf ls qs)) (cond b (masksOf ls (q .head) ∷ headsOf ls qs) (headsOf ls qs))
           → (Each (bodiesOf ls qs) (headsOf ls qs) → T (models qs u)) → T (holds q u && models qs u)
       go true e h ih =

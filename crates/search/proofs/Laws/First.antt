@@ -6,13 +6,13 @@ use mathlib.Core.Path.{_≡_, refl, subst}
 use mathlib.Core.Bool.{true, false}
 use mathlib.Core.Logic.{_⊎_, inl, inr, ⊎-elim}
 use lib.Bits.{bitOr, bitXor}
-use Rattle.mask.specs.Mask.{Within, Position, Highest}
+use Rattle.mask.specs.Code.{Within, Position, Highest}
 use Rattle.mask.proofs.Laws.Part.{within-refl, within-trans, within-le, within-or-left, xor-within}
 use Rattle.narrow.specs.declared.Bounds.{Bounds}
-use Rattle.narrow.specs.Narrow.{Propagated}
+use Rattle.narrow.specs.Code.{Propagated}
 use Rattle.narrow.proofs.Laws.Narrow.{true-not-false}
 use Rattle.search.specs.declared.Found.{Found}
-use Rattle.search.specs.Search.{Candidate, Any, First}
+use Rattle.search.specs.Code.{Candidate, Any, First}
 use Rattle.search.proofs.Laws.Open.{open-within, absent-before, absent-or-present}
 
 -- narrower bounds
@@ -23,7 +23,7 @@ wider P must may m y p q x d =
       has = d .has;
     }
 
-module _ {P : ℕ → Type 0} {must may : ℕ} {s : Bounds} (v : Propagated P must may s) where
+module _ {P : ℕ → Type 0} {Q : ℕ → ℕ → Type 0} {must may : ℕ} {s : Bounds} (v : Propagated P Q must may s) where
   -- nothing is left
   pub any-dead : s .live ≡ false → Any (Candidate P must may) (record { found = false; model = 0 })
   any-dead n =

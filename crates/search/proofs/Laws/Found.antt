@@ -1,12 +1,15 @@
 -- What a search found, as a part of a list. Assumes nothing.
 use mathlib.Core.Path.{_≡_}
-use mathlib.Core.Bool.{true, false}
+use mathlib.Core.Bool.{true, false, cond}
 use mathlib.Core.List.{List}
-use mathlib.Core.Option.{none, some}
+use mathlib.Core.Option.{Option, none, some}
 use Rattle.literal.specs.declared.Literal.{Literal}
-use Rattle.narrow.specs.Picked.{picked}
+use Rattle.narrow.proofs.Laws.Build.{picked}
 use Rattle.search.specs.declared.Found.{Found}
-use Rattle.search.specs.Search.{foundIn}
+
+-- what a search over the positions of ls found
+unfoldable pub foundIn : List Literal → Found → Option (List Literal)
+foundIn ls r = cond (r .found) (some (picked (r .model) ls)) none
 
 -- one, and none
 pub found-some : (ls : List Literal) (r : Found) → r .found ≡ true → foundIn ls r ≡ some (picked (r .model) ls)

@@ -6,10 +6,10 @@ use Prim.Native.Nat.{ℕ}
 use mathlib.Core.Path.{_≡_, refl, sym, subst}
 use mathlib.Core.Bool.{false, true}
 use lib.Bits.{bitAnd, bitOr, bitXor}
-use Rattle.mask.specs.Mask.{Within, Highest}
+use Rattle.mask.specs.Code.{Within, Highest}
 use Rattle.mask.proofs.Laws.Part.{within-antisym, within-xor, apart-sym}
 use Rattle.search.specs.declared.Found.{Found}
-use Rattle.search.specs.Search.{Candidate, Any, First}
+use Rattle.search.specs.Code.{Candidate, Any, First}
 use Rattle.search.proofs.Laws.Open.{open-within, tries-inside}
 use Rattle.search.proofs.Laws.First.{first-leaf, first-absent, first-present, present-at-hand}
 

@@ -6,10 +6,10 @@ use native.Mathlib.Omega.{arith}
 use mathlib.Core.Path.{_≡_}
 use mathlib.Core.Logic.{_⊎_, inl, inr, ⊎-elim}
 use lib.Bits.{bitOr, bitXor, or-disjoint}
-use Rattle.mask.specs.Mask.{Within, Apart, Position, Highest}
+use Rattle.mask.specs.Code.{Within, Apart, Position, Highest}
 use Rattle.mask.proofs.Laws.Part.{within-trans, within-le, within-or-left, or-within, apart-sym, within-apart, xor-within, xor-apart, within-xor, xor-sum, apart-or-not}
 use Rattle.mask.proofs.Laws.Count.{ones-mono, ones-strict}
-use Rattle.narrow.specs.Narrow.{Between}
+use Rattle.narrow.specs.Code.{Between}
 use Rattle.narrow.proofs.Laws.Narrow.{open-count}
 
 -- bounds that differ leave a position open

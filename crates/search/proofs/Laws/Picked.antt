@@ -12,12 +12,14 @@ use lib.Dec.{T}
 use lib.ListN.{length}
 use Rattle.literal.specs.declared.Literal.{Literal}
 use Rattle.semantics.specs.Verdict.{firstSubset}
-use Rattle.semantics.proofs.Laws.Part.{Part, nil, absent, present, Before, none-first, some-first}
-use Rattle.mask.specs.Mask.{has}
+use Rattle.semantics.specs.Findings.{Part, nil, absent, present, Before}
+use Rattle.semantics.proofs.Laws.Part.{none-first, some-first}
+use Rattle.mask.specs.Code.{has}
 use Rattle.mask.proofs.Laws.Place.{has-add-below, has-add-at, has-beyond, mod-suc}
-use Rattle.narrow.specs.Picked.{picked}
+use Rattle.narrow.proofs.Laws.Build.{picked}
 use Rattle.search.specs.declared.Found.{Found}
-use Rattle.search.specs.Search.{First, foundIn}
+use Rattle.search.specs.Code.{First}
+use Rattle.search.proofs.Laws.Found.{foundIn}
 
 -- a literal is present or absent, and a part of the rest
 abbrev one-more : {l : Literal} {s ls : List Literal} (b : Bool) → Part s ls → Part (cond b (l ∷ s) s) (l ∷ ls)

@@ -14,10 +14,10 @@ use Rattle.semantics.specs.Set.{sameLiteral, setOf}
 use Rattle.semantics.proofs.Laws.Tests.{first, second, left, right, either, fails, decide, along}
 use Rattle.semantics.proofs.Laws.Set.{same-literal-eq}
 use Rattle.semantics.proofs.Laws.Part.{part-subset}
-use Rattle.mask.specs.Mask.{has, Within, Apart}
+use Rattle.mask.specs.Code.{has, Within, Apart}
 use Rattle.mask.proofs.Laws.Place.{pow-within, pow-apart}
-use Rattle.narrow.specs.Picked.{distinct, picked, maskOf}
-use Rattle.narrow.proofs.Laws.Build.{mask-some, mask-none}
+use Rattle.narrow.proofs.Laws.Build.{distinct, picked, mask-some, mask-none}
+use Rattle.narrow.specs.Code.{maskOf}
 use Rattle.search.proofs.Laws.Picked.{picked-part}
 
 -- a literal is in a list and its mask in x, or neither

@@ -3,11 +3,11 @@
 use Prim.Native.Nat.{ℕ}
 use mathlib.Core.Path.{refl, subst}
 use mathlib.Core.List.{List}
-use Rattle.mask.specs.Mask.{Within}
+use Rattle.mask.specs.Code.{Within}
 use Rattle.mask.proofs.Laws.Part.{within-refl, within-antisym}
-use Rattle.narrow.specs.Clause.{Model, Smaller}
+use Rattle.narrow.specs.Code.{Model, Smaller}
 use Rattle.search.specs.declared.Found.{Found}
-use Rattle.search.specs.Search.{Candidate, First}
+use Rattle.search.specs.Code.{Candidate, First}
 
 -- the first mask with a property is the first with one that says the same
 pub first-as : {P R : ℕ → Type 0} {r : Found} → ((x : ℕ) → R x → P x) → ((x : ℕ) → P x → R x) → First P r → First R r

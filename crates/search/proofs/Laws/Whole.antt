@@ -11,13 +11,13 @@ use lib.Dec.{T}
 use lib.ListN.{length}
 use lib.Pow.{pow-pos}
 use Rattle.literal.specs.declared.Literal.{Literal}
-use Rattle.semantics.specs.Set.{all, sameLiteral, setOf}
+use Rattle.semantics.specs.Set.{eachOf, sameLiteral, setOf}
 use Rattle.semantics.proofs.Laws.Tests.{first, second, either, fails, all-mem, all-intro}
 use Rattle.semantics.proofs.Laws.Set.{same-literal-eq, set-of-mem}
 use Rattle.semantics.proofs.Laws.Part.{part-subset}
-use Rattle.mask.specs.Mask.{has}
+use Rattle.mask.specs.Code.{has}
 use Rattle.mask.proofs.Laws.Place.{mod-suc}
-use Rattle.narrow.specs.Picked.{distinct, picked}
+use Rattle.narrow.proofs.Laws.Build.{distinct, picked}
 use Rattle.search.proofs.Laws.Picked.{picked-part}
 
 -- a mask with all positions picks the whole list
@@ -33,7 +33,7 @@ picked-whole x (l ∷ ls) e =
     go false ih e = absurd (omega (arith, pow-suc 2 (length ls), mod-lt x (pow-pos (length ls))))
 
 -- and a mask that picks each literal of a list without repeats has all positions
-pub whole-picked : (x : ℕ) (ls : List Literal) → T (distinct ls) → T (all (setOf (picked x ls)) ls) → x % 2 ^ length ls + 1 ≡ 2 ^ length ls
+pub whole-picked : (x : ℕ) (ls : List Literal) → T (distinct ls) → T (eachOf (setOf (picked x ls)) ls) → x % 2 ^ length ls + 1 ≡ 2 ^ length ls
 unfolding distinct picked
 whole-picked x [] d t = omega (arith, mod-lt x (pow-pos 0))
 whole-picked x (l ∷ ls) d t =
@@ -49,14 +49,14 @@ whole-picked x (l ∷ ls) d t =
         ⊎-elim (λ e. absurd (fails (setOf ls l) n (subst (λ (z : Literal). T (setOf ls z)) (same-literal-eq m l e) (set-of-mem w)))) (λ r. r)
         (either (sameLiteral m l) (setOf (picked x ls) m) s)
 
-    go : (b : Bool) → T (setOf (cond b (l ∷ picked x ls) (picked x ls)) l && all (setOf (cond b (l ∷ picked x ls) (picked x ls))) ls)
-        → (T (all (setOf (picked x ls)) ls) → x % 2 ^ length ls + 1 ≡ 2 ^ length ls) → cond b (2 ^ length ls) 0 + x % 2 ^ length ls + 1 ≡ 2 ^ suc (length ls)
+    go : (b : Bool) → T (setOf (cond b (l ∷ picked x ls) (picked x ls)) l && eachOf (setOf (cond b (l ∷ picked x ls) (picked x ls))) ls)
+        → (T (eachOf (setOf (picked x ls)) ls) → x % 2 ^ length ls + 1 ≡ 2 ^ length ls) → cond b (2 ^ length ls) 0 + x % 2 ^ length ls + 1 ≡ 2 ^ suc (length ls)
     go true t ih =
-        let rest = second (setOf (l ∷ picked x ls) l) (all (setOf (l ∷ picked x ls)) ls) t in
+        let rest = second (setOf (l ∷ picked x ls) l) (eachOf (setOf (l ∷ picked x ls)) ls) t in
         omega (
           arith,
           pow-suc 2 (length ls),
           ih (all-intro (setOf (picked x ls)) ls (λ m w. behind m w (all-mem (setOf (l ∷ picked x ls)) rest w))),
         )
     go false t ih =
-        absurd (fails (setOf ls l) n (part-subset (picked-part x ls) l (first (setOf (picked x ls) l) (all (setOf (picked x ls)) ls) t)))
+        absurd (fails (setOf ls l) n (part-subset (picked-part x ls) l (first (setOf (picked x ls) l) (eachOf (setOf (picked x ls)) ls) t)))

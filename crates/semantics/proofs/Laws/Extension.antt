@@ -12,7 +12,7 @@ use Rattle.literal.specs.declared.RuleNo.{RuleNo}
 use Rattle.literal.specs.declared.SignedAtom.{SignedAtom}
 use Rattle.literal.specs.declared.Literal.{Literal}
 use Rattle.literal.specs.declared.Literal.the-variants.{Signed, Defeated, Derived, RuleDefeated}
-use Rattle.semantics.specs.Set.{LiteralSet, any, all}
+use Rattle.semantics.specs.Set.{LiteralSet, someOf, eachOf}
 use Rattle.semantics.specs.Rule.{Rule, defeasible, Program}
 use Rattle.semantics.specs.Extension.{offers, defeatedRule, defeatedFrom, added, extension, sourceKind, restriction}
 use Rattle.semantics.specs.Form.{SourceSet}
@@ -24,10 +24,10 @@ use Rattle.semantics.proofs.Laws.Position.{At, Offer, offer-found, offe
 abbrev pub Agree : LiteralSet → LiteralSet → Type 0
 Agree s u = (l : Literal) → T (sourceKind l) → s l ≡ u l
 
-pub any-source : {s u : LiteralSet} (ls : List Literal) → Agree s u → T (all sourceKind ls) → any s ls ≡ any u ls
+pub any-source : {s u : LiteralSet} (ls : List Literal) → Agree s u → T (eachOf sourceKind ls) → someOf s ls ≡ someOf u ls
 any-source ls e k = any-agree ls (λ l m. e l (all-mem sourceKind k m))
 
-pub all-source : {s u : LiteralSet} (ls : List Literal) → Agree s u → T (all sourceKind ls) → all s ls ≡ all u ls
+pub all-source : {s u : LiteralSet} (ls : List Literal) → Agree s u → T (eachOf sourceKind ls) → eachOf s ls ≡ eachOf u ls
 all-source ls e k = all-agree ls (λ l m. e l (all-mem sourceKind k m))
 
 -- an extension adds no literal of a source kind
@@ -73,11 +73,11 @@ pub extension-derived : (p : Program) (s : LiteralSet) → SourceSet s → (t : 
 unfolding extension added
 extension-derived p s k t a y = ⊎-elim (λ z. absurd (no-derived s k t a z)) found (either (s (Derived t a)) (added p s (Derived t a)) y)
   where
-    found : T (any (offers t a) p && (s (Signed a) && not (s (Defeated t a)))) → DerivedMark p s t a
+    found : T (someOf (offers t a) p && (s (Signed a) && not (s (Defeated t a)))) → DerivedMark p s t a
     found z =
-        let w = second (any (offers t a) p) (s (Signed a) && not (s (Defeated t a))) z in
+        let w = second (someOf (offers t a) p) (s (Signed a) && not (s (Defeated t a))) z in
         record {
-          offer = offer-found 1 p t a (first (any (offers t a) p) (s (Signed a) && not (s (Defeated t a))) z);
+          offer = offer-found 1 p t a (first (someOf (offers t a) p) (s (Signed a) && not (s (Defeated t a))) z);
           holds = first (s (Signed a)) (not (s (Defeated t a))) w;
           undefeated = fails (s (Defeated t a)) (second (s (Signed a)) (not (s (Defeated t a))) w);
         }
@@ -87,7 +87,7 @@ pub derived-extension : (p : Program) (s : LiteralSet) {n : ℕ} {t : Tag} {h : 
 unfolding extension added
 derived-extension p s {t} {a} at m y n =
     right (s (Derived t a)) (added p s (Derived t a))
-    (both (any (offers t a) p) (s (Signed a) && not (s (Defeated t a))) (offer-any at m)
+    (both (someOf (offers t a) p) (s (Signed a) && not (s (Defeated t a))) (offer-any at m)
     (both (s (Signed a)) (not (s (Defeated t a))) y (refuted (s (Defeated t a)) n)))
 
 -- what a rule-defeated mark of an extension says

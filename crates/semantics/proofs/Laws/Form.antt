@@ -12,10 +12,10 @@ use Rattle.literal.specs.declared.SignedAtom.{SignedAtom}
 use Rattle.literal.specs.declared.SignedAtom.the-variants.{Positive, Negative}
 use Rattle.literal.specs.declared.Literal.{Literal}
 use Rattle.literal.specs.declared.Literal.the-variants.{Signed, Defeated, Derived, RuleDefeated}
-use Rattle.literal.specs.Literal.{atomNumber, kind, inRange, ranged, takes}
+use Rattle.literal.specs.Literal.{mostKind, atomNumber, kind, inRange, ranged, takes}
 use Rattle.literal.specs.declared.Tag.{Tag}
 use Rattle.literal.proofs.Laws.Literal.{kind-most, takes-kind, takes-ranged, takes-both}
-use Rattle.semantics.specs.Set.{LiteralSet, all}
+use Rattle.semantics.specs.Set.{LiteralSet, eachOf}
 use Rattle.semantics.specs.Rule.{Rule, defeasible, Program, head, positive, naf}
 use Rattle.semantics.specs.Translation.{ruleDefeated}
 use Rattle.semantics.specs.Extension.{extension, sourceKind}
@@ -27,11 +27,11 @@ use Rattle.semantics.proofs.Laws.Extension.{extension-agree, agree-sign
 -- the rules of a program within the limits
 pub keeps-count : (F : Limits) (p : Program) → T (keepsRules F p) → length p ≤ F .rules
 unfolding keepsRules
-keeps-count F p k = leb→le (length p) (F .rules) (first (leb (length p) (F .rules)) (all (keepsRule F) p) k)
+keeps-count F p k = leb→le (length p) (F .rules) (first (leb (length p) (F .rules)) (eachOf (keepsRule F) p) k)
 
-pub keeps-each : (F : Limits) (p : Program) → T (keepsRules F p) → T (all (keepsRule F) p)
+pub keeps-each : (F : Limits) (p : Program) → T (keepsRules F p) → T (eachOf (keepsRule F) p)
 unfolding keepsRules
-keeps-each F p k = second (leb (length p) (F .rules)) (all (keepsRule F) p) k
+keeps-each F p k = second (leb (length p) (F .rules)) (eachOf (keepsRule F) p) k
 
 -- the parts of a rule within the limits
 module _ (F : Limits) (r : Rule) (k : T (keepsRule F r)) where
@@ -46,25 +46,25 @@ module _ (F : Limits) (r : Rule) (k : T (keepsRule F r)) where
   pub keeps-counts : T (keepsCounts F (length (head r)) (length (positive r)) (length (naf r)))
   keeps-counts = first (keepsCounts F (length (head r)) (length (positive r)) (length (naf r))) (keepsLiterals F r) rest
 
-  literals : T (all (takes F) (head r) && (all (takes F) (positive r) && all (takes F) (naf r)))
+  literals : T (eachOf (takes F) (head r) && (eachOf (takes F) (positive r) && eachOf (takes F) (naf r)))
   unfolding keepsLiterals
   literals = second (keepsCounts F (length (head r)) (length (positive r)) (length (naf r))) (keepsLiterals F r) rest
 
-  pub keeps-head : T (all (takes F) (head r))
-  keeps-head = first (all (takes F) (head r)) (all (takes F) (positive r) && all (takes F) (naf r)) literals
+  pub keeps-head : T (eachOf (takes F) (head r))
+  keeps-head = first (eachOf (takes F) (head r)) (eachOf (takes F) (positive r) && eachOf (takes F) (naf r)) literals
 
-  pub keeps-positive : T (all (takes F) (positive r))
+  pub keeps-positive : T (eachOf (takes F) (positive r))
   keeps-positive =
-      first (all (takes F) (positive r)) (all (takes F) (naf r))
-      (second (all (takes F) (head r)) (all (takes F) (positive r) && all (takes F) (naf r)) literals)
+      first (eachOf (takes F) (positive r)) (eachOf (takes F) (naf r))
+      (second (eachOf (takes F) (head r)) (eachOf (takes F) (positive r) && eachOf (takes F) (naf r)) literals)
 
-  pub keeps-naf : T (all (takes F) (naf r))
+  pub keeps-naf : T (eachOf (takes F) (naf r))
   keeps-naf =
-      second (all (takes F) (positive r)) (all (takes F) (naf r))
-      (second (all (takes F) (head r)) (all (takes F) (positive r) && all (takes F) (naf r)) literals)
+      second (eachOf (takes F) (positive r)) (eachOf (takes F) (naf r))
+      (second (eachOf (takes F) (head r)) (eachOf (takes F) (positive r) && eachOf (takes F) (naf r)) literals)
 
 -- a form whose largest kind is 3 takes literals of source kinds alone
-pub takes-source : (F : Limits) → F .kinds ≤ 3 → (l : Literal) → T (takes F l) → T (sourceKind l)
+pub takes-source : (F : Limits) → mostKind (F .kinds) ≤ 3 → (l : Literal) → T (takes F l) → T (sourceKind l)
 unfolding sourceKind kind
 takes-source F s (Signed a) y = tt
 takes-source F s (Defeated t a) y = tt
@@ -72,21 +72,21 @@ takes-source F s (Derived t (Positive a)) y = absurd (omega (arith, takes-kind F
 takes-source F s (Derived t (Negative a)) y = absurd (omega (arith, takes-kind F (Derived t (Negative a)) y))
 takes-source F s (RuleDefeated n) y = absurd (omega (arith, takes-kind F (RuleDefeated n) y))
 
-pub source-rules : (F : Limits) → F .kinds ≤ 3 → (p : Program) → T (all (keepsRule F) p) → T (all sourceRule p)
+pub source-rules : (F : Limits) → mostKind (F .kinds) ≤ 3 → (p : Program) → T (eachOf (keepsRule F) p) → T (eachOf sourceRule p)
 unfolding sourceRule
 source-rules F s p k = all-intro sourceRule p (λ r m. go r (all-mem (keepsRule F) k m))
   where
-    over : (ls : List Literal) → T (all (takes F) ls) → T (all sourceKind ls)
+    over : (ls : List Literal) → T (eachOf (takes F) ls) → T (eachOf sourceKind ls)
     over ls t = all-intro sourceKind ls (λ l m. takes-source F s l (all-mem (takes F) t m))
 
     go : (r : Rule) → T (keepsRule F r) → T (sourceRule r)
     go r t =
-        both (all sourceKind (head r)) (all sourceKind (positive r) && all sourceKind (naf r)) (over (head r) (keeps-head F r t))
-        (both (all sourceKind (positive r)) (all sourceKind (naf r)) (over (positive r) (keeps-positive F r t)) (over (naf r) (keeps-naf F r t)))
+        both (eachOf sourceKind (head r)) (eachOf sourceKind (positive r) && eachOf sourceKind (naf r)) (over (head r) (keeps-head F r t))
+        (both (eachOf sourceKind (positive r)) (eachOf sourceKind (naf r)) (over (positive r) (keeps-positive F r t)) (over (naf r) (keeps-naf F r t)))
 
 -- form G takes every literal of F, the derivation marks of F's defeat marks, and the numbers of F's rules
 pub record Covers (F G : Limits) : Type 0 where
-  pub kinds : 6 ≤ G .kinds
+  pub kinds : 6 ≤ mostKind (G .kinds)
   pub atoms : F .atoms ≤ G .atoms
   pub tags : F .tags ≤ G .tags
   pub numbers : F .rules ≤ G .numbers

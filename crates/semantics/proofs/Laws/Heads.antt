@@ -5,7 +5,7 @@ use mathlib.Core.List.{List, List·Memᴰ, Memᴰ·map}
 use lib.Dec.{T}
 use Rattle.literal.specs.declared.Literal.{Literal}
 use Rattle.literal.specs.declared.Literal.the-variants.{Signed}
-use Rattle.semantics.specs.Set.{LiteralSet, any, all, setOf}
+use Rattle.semantics.specs.Set.{LiteralSet, someOf, eachOf, setOf}
 use Rattle.semantics.specs.Rule.{Rule, strict, defeasible, Program, head}
 use Rattle.semantics.specs.Meaning.{quotient, models, AnswerSet}
 use Rattle.semantics.proofs.Laws.Tests.{both, first, second, left, any-mem, any-found, all-intro, all-mem}
@@ -15,7 +15,7 @@ use Rattle.semantics.proofs.Laws.Position.{At, models-at, at-models, at
 
 -- l stands in a head of p
 heads : Program → Literal → Bool
-heads p l = any (λ r. setOf (head r) l) p
+heads p l = someOf (λ r. setOf (head r) l) p
 
 at-heads : {n : ℕ} {r : Rule} {k : ℕ} {p : Program} {l : Literal} → At n r k p → List·Memᴰ l (head r) → T (heads p l)
 unfolding heads
@@ -25,7 +25,7 @@ at-heads {l} at m = any-mem (λ r. setOf (head r) l) (at-mem at) (set-of-mem m)
 among : Program → LiteralSet → LiteralSet
 among p s l = s l && heads p l
 
-among-all : (p : Program) (s : LiteralSet) (b : List Literal) → T (all (among p s) b) → T (all s b)
+among-all : (p : Program) (s : LiteralSet) (b : List Literal) → T (eachOf (among p s) b) → T (eachOf s b)
 unfolding among
 among-all p s b y = all-intro s b (λ l m. first (s l) (heads p l) (all-mem (among p s) y m))
 

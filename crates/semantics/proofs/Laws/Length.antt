@@ -1,4 +1,4 @@
--- Laws of lengths and counts: of an append; the sum is the translation's length; the count its rules; thirteenfold.
+-- Laws of lengths and counts: a program's length; of an append; the sum is the translation's length; the count its rules; thirteenfold.
 -- Assumes nothing.
 use Prim.Native.Nat.{ℕ, _+_, _*_, _≤_}
 use native.Mathlib.Omega.{arith}
@@ -11,12 +11,20 @@ use Rattle.literal.specs.declared.Limits.{Limits}
 use Rattle.literal.specs.declared.Tag.{Tag}
 use Rattle.literal.specs.declared.SignedAtom.{SignedAtom}
 use Rattle.literal.specs.declared.Literal.the-variants.{Signed, Defeated, Derived}
-use Rattle.semantics.specs.Set.{all}
+use Rattle.semantics.specs.Set.{eachOf}
 use Rattle.semantics.specs.Rule.{Rule, strict, defeasible, Program, head, positive, naf}
-use Rattle.semantics.specs.Translation.{ruleDefeated, choice, allDefeated, holdsIfDerived, derivedIfHolds, neverBoth, option, options, translatedRule, translationFrom, translation, recordLength, recordsLength, programLength, translatedLength, translatedLengths, translationLength, translatedCount, translatedCounts}
+use Rattle.semantics.specs.Translation.{ruleDefeated, choice, allDefeated, holdsIfDerived, derivedIfHolds, neverBoth, option, options, translatedRule, translationFrom, translation, recordLength, translatedLength, translatedLengths, translationLength, translatedCount, translatedCounts}
 use Rattle.semantics.specs.Form.{keepsCounts, keepsRule, keepsRules}
 use Rattle.semantics.proofs.Laws.Tests.{first, second}
 use Rattle.semantics.proofs.Laws.Form.{keeps-counts, keeps-each}
+
+-- the bytes of a program's records, and of the program: an end record follows
+unfoldable pub recordsLength : Program → ℕ
+recordsLength [] = 0
+recordsLength (r ∷ p) = recordLength r + recordsLength p
+
+unfoldable pub programLength : Program → ℕ
+programLength p = recordsLength p + 4
 
 -- the translation of an append: the second part's numbers go on
 pub translation-append : (n : ℕ) (p q : Program) → translationFrom n (p ++ q) ≡ translationFrom n p ++ translationFrom (n + length p) q
@@ -90,11 +98,11 @@ rule-thirteenfold F most (defeasible t h b c) k =
     let heads = leb→le (length (map Signed h)) (F .heads) (first (leb (length (map Signed h)) (F .heads)) (leb (length (positive (defeasible t h b c))) (F .positives) && leb (length (naf (defeasible t h b c))) (F .nafs)) counts) in
     omega (arith, heads, length-map h Signed)
 
-rules-thirteenfold : (F : Limits) → F .heads ≤ 67 → (p : Program) → T (all (keepsRule F) p) → translatedLengths p ≤ 13 * recordsLength p
+rules-thirteenfold : (F : Limits) → F .heads ≤ 67 → (p : Program) → T (eachOf (keepsRule F) p) → translatedLengths p ≤ 13 * recordsLength p
 unfolding translatedLengths recordsLength
 rules-thirteenfold F most [] k = omega arith
 rules-thirteenfold F most (r ∷ p) k =
-    omega (arith, rule-thirteenfold F most r (first (keepsRule F r) (all (keepsRule F) p) k), rules-thirteenfold F most p (second (keepsRule F r) (all (keepsRule F) p) k))
+    omega (arith, rule-thirteenfold F most r (first (keepsRule F r) (eachOf (keepsRule F) p) k), rules-thirteenfold F most p (second (keepsRule F r) (eachOf (keepsRule F) p) k))
 
 -- a translation is at most thirteen times as long as its source
 pub thirteenfold : (F : Limits) → F .heads ≤ 67 → (p : Program) → T (keepsRules F p) → translationLength p ≤ 13 * programLength p

@@ -1,5 +1,6 @@
 -- Parts of a list of literals: each literal absent or present, in the list's order (01, "Check": the subsets of a set).
--- In order: parts and their order; the first part that passes a test; a part as a set; the part that lies in a set.
+-- In order: the first part that passes a test; a part as a set; the part that lies in a set.
+-- Not here: what a part is, and the order of parts (`specs/Findings`).
 -- Assumes nothing.
 use mathlib.Core.Path.{_≡_, refl, sym, _∙_, subst}
 use mathlib.Core.Bool.{Bool, true, false, cond}
@@ -9,22 +10,9 @@ use lib.Dec.{T}
 use Rattle.literal.specs.declared.Literal.{Literal}
 use Rattle.semantics.specs.Set.{LiteralSet, Subset, setOf}
 use Rattle.semantics.specs.Verdict.{orElse, withLiteral, firstSubset}
+use Rattle.semantics.specs.Findings.{Part, nil, absent, present, Before}
 use Rattle.semantics.proofs.Laws.Tests.{is-true, is-false, along}
 use Rattle.semantics.proofs.Laws.Set.{set-of-mem, mem-set-of, set-ext}
-
--- a part of a list: for each element, from the first on, whether it is absent or present
-pub data Part : List Literal → List Literal → Type 0 where
-  nil : Part [] []
-  absent : {l : Literal} {s ls : List Literal} → Part s ls → Part s (l ∷ ls)
-  present : {l : Literal} {s ls : List Literal} → Part s ls → Part (l ∷ s) (l ∷ ls)
-
--- the order of a list's parts: compared literal by literal, absent before present
-abbrev pub Before : {s t ls : List Literal} → Part s ls → Part t ls → Type 0
-Before nil nil = ⊥
-Before (absent v) (absent w) = Before v w
-Before (absent v) (present w) = Unit
-Before (present v) (absent w) = ⊥
-Before (present v) (present w) = Before v w
 
 -- s is the first part of ls that passes a test
 pub record FirstPart (ls : List Literal) (test : List Literal → Bool) (s : List Literal) : Type 0 where

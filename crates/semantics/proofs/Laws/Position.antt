@@ -12,7 +12,7 @@ use lib.ListN.{length}
 use Rattle.literal.specs.declared.Tag.{Tag}
 use Rattle.literal.specs.declared.SignedAtom.{SignedAtom}
 use Rattle.literal.specs.declared.Literal.{Literal}
-use Rattle.semantics.specs.Set.{LiteralSet, any, all, sameTag, sameSigned}
+use Rattle.semantics.specs.Set.{LiteralSet, someOf, eachOf, sameTag, sameSigned}
 use Rattle.semantics.specs.Rule.{Rule, strict, defeasible, Program}
 use Rattle.semantics.specs.Extension.{offers, defeatedRule, defeatedFrom}
 use Rattle.semantics.proofs.Laws.Tests.{both, first, second, left, right, either, any-mem, any-found, along}
@@ -37,13 +37,13 @@ at-unique (there a) (here g h) = absurd (omega (arith, at-from a))
 at-unique (there a) (there b) = at-unique a b
 
 -- a test of every rule passes at every number
-pub all-at : (f : Rule → Bool) {n : ℕ} {r : Rule} {k : ℕ} {p : Program} → T (all f p) → At n r k p → T (f r)
-all-at f t (here {q} {p} e g) = subst (λ (z : Rule). T (f z)) g (first (f q) (all f p) t)
-all-at f t (there {q} {p} a) = all-at f (second (f q) (all f p) t) a
+pub all-at : (f : Rule → Bool) {n : ℕ} {r : Rule} {k : ℕ} {p : Program} → T (eachOf f p) → At n r k p → T (f r)
+all-at f t (here {q} {p} e g) = subst (λ (z : Rule). T (f z)) g (first (f q) (eachOf f p) t)
+all-at f t (there {q} {p} a) = all-at f (second (f q) (eachOf f p) t) a
 
-pub at-all : (f : Rule → Bool) (k : ℕ) (p : Program) → ((n : ℕ) (r : Rule) → At n r k p → T (f r)) → T (all f p)
+pub at-all : (f : Rule → Bool) (k : ℕ) (p : Program) → ((n : ℕ) (r : Rule) → At n r k p → T (f r)) → T (eachOf f p)
 at-all f k [] h = tt
-at-all f k (q ∷ p) h = both (f q) (all f p) (h k q (here refl refl)) (at-all f (k + 1) p (λ n r a. h n r (there a)))
+at-all f k (q ∷ p) h = both (f q) (eachOf f p) (h k q (here refl refl)) (at-all f (k + 1) p (λ n r a. h n r (there a)))
 
 -- a rule with a number is a rule of the program
 pub at-mem : {n : ℕ} {r : Rule} {k : ℕ} {p : Program} → At n r k p → List·Memᴰ r p
@@ -72,21 +72,21 @@ pub record Offer (k : ℕ) (p : Program) (t : Tag) (a : SignedAtom) : Type 0 whe
   pub at : At number (defeasible t options body nafs) k p
   pub mem : List·Memᴰ a options
 
-pub offer-found : (k : ℕ) (p : Program) (t : Tag) (a : SignedAtom) → T (any (offers t a) p) → Offer k p t a
+pub offer-found : (k : ℕ) (p : Program) (t : Tag) (a : SignedAtom) → T (someOf (offers t a) p) → Offer k p t a
 unfolding offers
 offer-found k [] t a y = absurd y
-offer-found k (r ∷ p) t a y = go r (λ z. offer-found (k + 1) p t a z) (either (offers t a r) (any (offers t a) p) y)
+offer-found k (r ∷ p) t a y = go r (λ z. offer-found (k + 1) p t a z) (either (offers t a r) (someOf (offers t a) p) y)
   where
     later : (r : Rule) → Offer (k + 1) p t a → Offer k (r ∷ p) t a
     later r o = record { number = o .number; options = o .options; body = o .body; nafs = o .nafs; at = there (o .at); mem = o .mem }
 
-    go : (r : Rule) → (T (any (offers t a) p) → Offer (k + 1) p t a) → T (offers t a r) ⊎ T (any (offers t a) p) → Offer k (r ∷ p) t a
+    go : (r : Rule) → (T (someOf (offers t a) p) → Offer (k + 1) p t a) → T (offers t a r) ⊎ T (someOf (offers t a) p) → Offer k (r ∷ p) t a
     go (strict h b c) ih (inl z) = absurd z
     go (strict h b c) ih (inr z) = later (strict h b c) (ih z)
     go (defeasible u h b c) ih (inr z) = later (defeasible u h b c) (ih z)
     go (defeasible u h b c) ih (inl z) =
-        let found = any-found (sameSigned a) h (second (sameTag t u) (any (sameSigned a) h) z) in
-        let e = same-tag-eq t u (first (sameTag t u) (any (sameSigned a) h) z) in
+        let found = any-found (sameSigned a) h (second (sameTag t u) (someOf (sameSigned a) h) z) in
+        let e = same-tag-eq t u (first (sameTag t u) (someOf (sameSigned a) h) z) in
         record {
           number = k;
           options = h;
@@ -97,13 +97,13 @@ offer-found k (r ∷ p) t a y = go r (λ z. offer-found (k + 1) p t a z) (either
         }
 
 pub offer-any : {k : ℕ} {p : Program} {n : ℕ} {t : Tag} {h : List SignedAtom} {b c : List Literal} {a : SignedAtom}
-    → At n (defeasible t h b c) k p → List·Memᴰ a h → T (any (offers t a) p)
+    → At n (defeasible t h b c) k p → List·Memᴰ a h → T (someOf (offers t a) p)
 unfolding offers
 offer-any {t} {h} {a} (here {q} {p} e f) m =
-    left (offers t a q) (any (offers t a) p)
+    left (offers t a q) (someOf (offers t a) p)
     (subst (λ (z : Rule). T (offers t a z)) (sym f)
-    (both (sameTag t t) (any (sameSigned a) h) (same-tag-refl t) (any-mem (sameSigned a) m (same-signed-refl a))))
-offer-any {t} {a} (there {q} {p} y) m = right (offers t a q) (any (offers t a) p) (offer-any y m)
+    (both (sameTag t t) (someOf (sameSigned a) h) (same-tag-refl t) (any-mem (sameSigned a) m (same-signed-refl a))))
+offer-any {t} {a} (there {q} {p} y) m = right (offers t a q) (someOf (offers t a) p) (offer-any y m)
 
 -- a rule that is defeated, by its number
 pub defeated-found : (k : ℕ) (p : Program) (s : LiteralSet) (n : ℕ) → T (defeatedFrom k p s n) → (r : Rule) × At n r k p × T (defeatedRule s r)

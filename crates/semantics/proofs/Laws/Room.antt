@@ -14,8 +14,8 @@ use Rattle.literal.specs.declared.Tag.{Tag}
 use Rattle.literal.specs.declared.SignedAtom.{SignedAtom}
 use Rattle.literal.specs.declared.Literal.{Literal}
 use Rattle.literal.specs.declared.Literal.the-variants.{Signed, Defeated, Derived, RuleDefeated}
-use Rattle.literal.specs.Literal.{takes, inRange}
-use Rattle.semantics.specs.Set.{all}
+use Rattle.literal.specs.Literal.{mostKind, takes, inRange}
+use Rattle.semantics.specs.Set.{eachOf}
 use Rattle.semantics.specs.Rule.{Rule, strict, defeasible, Program, head, positive, naf}
 use Rattle.semantics.specs.Translation.{ruleDefeated, choice, allDefeated, holdsIfDerived, derivedIfHolds, neverBoth, option, options, translatedRule, translationFrom, translation, translatedLength, translatedLengths, translationLength, translatedCount, translatedCounts}
 use Rattle.semantics.specs.Extension.{sourceKind}
@@ -27,7 +27,7 @@ use Rattle.semantics.proofs.Laws.Length.{count-translation}
 -- form G has room for what a program within F's limits becomes
 pub record Room (F G : Limits) : Type 0 where
   pub covers : Covers F G
-  pub source-kinds : F .kinds ≤ 3
+  pub source-kinds : mostKind (F .kinds) ≤ 3
   pub heads : max (F .heads) 1 ≤ G .heads
   pub positives : max (F .heads) (max (F .positives) 2) ≤ G .positives
   pub nafs : F .nafs + 1 ≤ G .nafs
@@ -36,15 +36,15 @@ pub record Room (F G : Limits) : Type 0 where
 
 -- a strict rule within the limits
 strict-keeps : (G : Limits) (h b c : List Literal) → length h ≤ G .heads → length b ≤ G .positives → length c ≤ G .nafs
-    → T (all (takes G) h) → T (all (takes G) b) → T (all (takes G) c) → T (keepsRule G (strict h b c))
+    → T (eachOf (takes G) h) → T (eachOf (takes G) b) → T (eachOf (takes G) c) → T (keepsRule G (strict h b c))
 unfolding keepsRule keepsTag keepsCounts keepsLiterals head positive naf
 strict-keeps G h b c lh lb lc th tb tc =
-    both (leb (length h) (G .heads) && (leb (length b) (G .positives) && leb (length c) (G .nafs))) (all (takes G) h && (all (takes G) b && all (takes G) c))
+    both (leb (length h) (G .heads) && (leb (length b) (G .positives) && leb (length c) (G .nafs))) (eachOf (takes G) h && (eachOf (takes G) b && eachOf (takes G) c))
     (both (leb (length h) (G .heads)) (leb (length b) (G .positives) && leb (length c) (G .nafs)) (le→leb (length h) (G .heads) lh)
     (both (leb (length b) (G .positives)) (leb (length c) (G .nafs)) (le→leb (length b) (G .positives) lb) (le→leb (length c) (G .nafs) lc)))
-    (both (all (takes G) h) (all (takes G) b && all (takes G) c) th (both (all (takes G) b) (all (takes G) c) tb tc))
+    (both (eachOf (takes G) h) (eachOf (takes G) b && eachOf (takes G) c) th (both (eachOf (takes G) b) (eachOf (takes G) c) tb tc))
 
-one : (G : Limits) (l : Literal) → T (takes G l) → T (all (takes G) (l ∷ []))
+one : (G : Limits) (l : Literal) → T (takes G l) → T (eachOf (takes G) (l ∷ []))
 one G l t = both (takes G l) true t tt
 
 -- the counts of a rule within the limits
@@ -73,7 +73,7 @@ module _ (F G : Limits) (room : Room F G) where
   covered (Derived u a) t = absurd (takes-source F (room .source-kinds) (Derived u a) t)
   covered (RuleDefeated n) t = absurd (takes-source F (room .source-kinds) (RuleDefeated n) t)
 
-  covered-all : (ls : List Literal) → T (all (takes F) ls) → T (all (takes G) ls)
+  covered-all : (ls : List Literal) → T (eachOf (takes F) ls) → T (eachOf (takes G) ls)
   covered-all ls t = all-intro (takes G) ls (λ l m. covered l (all-mem (takes F) t m))
 
   -- a rule and its number, within F's limits
@@ -106,7 +106,7 @@ module _ (F G : Limits) (room : Room F G) where
           (along (sym (all-map (takes G) (Derived t) h)) (all-intro (λ a. takes G (Derived t a)) h (λ a m. covers-derived F G (room .covers) t a tag (signed m))))
           (covered-all b (keeps-positive F (defeasible t h b c) k))
           (along (sym (all-append (takes G) c (ruleDefeated n ∷ [])))
-          (both (all (takes G) c) (all (takes G) (ruleDefeated n ∷ [])) (covered-all c (keeps-naf F (defeasible t h b c) k)) (one G (ruleDefeated n) number)))
+          (both (eachOf (takes G) c) (eachOf (takes G) (ruleDefeated n ∷ [])) (covered-all c (keeps-naf F (defeasible t h b c) k)) (one G (ruleDefeated n) number)))
 
       -- (3)
       defeated-keeps : T (keepsRule G (allDefeated n t h))
@@ -117,7 +117,7 @@ module _ (F G : Limits) (room : Room F G) where
           (along (sym (all-map (takes G) (Defeated t) h)) (all-intro (λ a. takes G (Defeated t a)) h (λ a m. covers-mark F G (room .covers) t a tag (signed m)))) tt
 
       -- (4), (5) and (6)
-      option-keeps : {a : SignedAtom} → List·Memᴰ a h → T (all (keepsRule G) (option t a))
+      option-keeps : {a : SignedAtom} → List·Memᴰ a h → T (eachOf (keepsRule G) (option t a))
       unfolding option holdsIfDerived derivedIfHolds neverBoth
       option-keeps {a} m =
           let is = covers-signed F G (room .covers) a (signed m) in
@@ -130,14 +130,14 @@ module _ (F G : Limits) (room : Room F G) where
           (both (keepsRule G (neverBoth t a)) true
           (strict-keeps G [] (Derived t a ∷ (Defeated t a ∷ [])) [] (omega arith) (omega (arith, room .positives)) (omega arith) tt (both (takes G (Derived t a)) (takes G (Defeated t a) && true) der (one G (Defeated t a) def)) tt) tt))
 
-      options-keep : (os : List SignedAtom) → ((a : SignedAtom) → List·Memᴰ a os → List·Memᴰ a h) → T (all (keepsRule G) (options t os))
+      options-keep : (os : List SignedAtom) → ((a : SignedAtom) → List·Memᴰ a os → List·Memᴰ a h) → T (eachOf (keepsRule G) (options t os))
       unfolding options
       options-keep [] f = tt
       options-keep (a ∷ os) f =
           along (sym (all-append (keepsRule G) (option t a) (options t os)))
-          (both (all (keepsRule G) (option t a)) (all (keepsRule G) (options t os)) (option-keeps (f a (List·Memᴰ·head refl))) (options-keep os (λ x m. f x (List·Memᴰ·tail m))))
+          (both (eachOf (keepsRule G) (option t a)) (eachOf (keepsRule G) (options t os)) (option-keeps (f a (List·Memᴰ·head refl))) (options-keep os (λ x m. f x (List·Memᴰ·tail m))))
 
-    rule-keeps : (r : Rule) → T (keepsRule F r) → T (all (keepsRule G) (translatedRule n r))
+    rule-keeps : (r : Rule) → T (keepsRule F r) → T (eachOf (keepsRule G) (translatedRule n r))
     unfolding translatedRule head positive naf
     rule-keeps (strict h b c) k =
         let w = counts F (strict h b c) k in
@@ -145,17 +145,17 @@ module _ (F G : Limits) (room : Room F G) where
         (strict-keeps G h b c (omega (arith, w .heads, room .heads)) (omega (arith, w .positives, room .positives)) (omega (arith, w .nafs, room .nafs))
         (covered-all h (keeps-head F (strict h b c) k)) (covered-all b (keeps-positive F (strict h b c) k)) (covered-all c (keeps-naf F (strict h b c) k))) tt
     rule-keeps (defeasible t h b c) k =
-        both (keepsRule G (choice n t h b c)) (keepsRule G (allDefeated n t h) && all (keepsRule G) (options t h)) (choice-keeps t h b c k)
-        (both (keepsRule G (allDefeated n t h)) (all (keepsRule G) (options t h)) (defeated-keeps t h b c k) (options-keep t h b c k h (λ a m. m)))
+        both (keepsRule G (choice n t h b c)) (keepsRule G (allDefeated n t h) && eachOf (keepsRule G) (options t h)) (choice-keeps t h b c k)
+        (both (keepsRule G (allDefeated n t h)) (eachOf (keepsRule G) (options t h)) (defeated-keeps t h b c k) (options-keep t h b c k h (λ a m. m)))
 
-  from-keeps : (n : ℕ) (p : Program) → 1 ≤ n → n + length p ≤ F .rules + 1 → T (all (keepsRule F) p) → T (all (keepsRule G) (translationFrom n p))
+  from-keeps : (n : ℕ) (p : Program) → 1 ≤ n → n + length p ≤ F .rules + 1 → T (eachOf (keepsRule F) p) → T (eachOf (keepsRule G) (translationFrom n p))
   unfolding translationFrom
   from-keeps n [] low high k = tt
   from-keeps n (r ∷ p) low high k =
       along (sym (all-append (keepsRule G) (translatedRule n r) (translationFrom (n + 1) p)))
-      (both (all (keepsRule G) (translatedRule n r)) (all (keepsRule G) (translationFrom (n + 1) p))
-      (rule-keeps n low (omega arith) r (first (keepsRule F r) (all (keepsRule F) p) k))
-      (from-keeps (n + 1) p (omega arith) (omega arith) (second (keepsRule F r) (all (keepsRule F) p) k)))
+      (both (eachOf (keepsRule G) (translatedRule n r)) (eachOf (keepsRule G) (translationFrom (n + 1) p))
+      (rule-keeps n low (omega arith) r (first (keepsRule F r) (eachOf (keepsRule F) p) k))
+      (from-keeps (n + 1) p (omega arith) (omega arith) (second (keepsRule F r) (eachOf (keepsRule F) p) k)))
 
   -- how many rules, and how many bytes, a rule becomes at most
   rule-count : (r : Rule) → T (keepsRule F r) → translatedCount r ≤ 3 * F .heads + 2
@@ -168,15 +168,15 @@ module _ (F G : Limits) (room : Room F G) where
   rule-length (strict h b c) k = let w = counts F (strict h b c) k in omega (arith, w .heads, w .positives, w .nafs)
   rule-length (defeasible t h b c) k = let w = counts F (defeasible t h b c) k in omega (arith, w .heads, w .positives, w .nafs, length-map h Signed)
 
-  rules-count : (p : Program) → T (all (keepsRule F) p) → translatedCounts p ≤ length p * (3 * F .heads + 2)
+  rules-count : (p : Program) → T (eachOf (keepsRule F) p) → translatedCounts p ≤ length p * (3 * F .heads + 2)
   unfolding translatedCounts
   rules-count [] k = omega arith
-  rules-count (r ∷ p) k = omega (arith, rule-count r (first (keepsRule F r) (all (keepsRule F) p) k), rules-count p (second (keepsRule F r) (all (keepsRule F) p) k))
+  rules-count (r ∷ p) k = omega (arith, rule-count r (first (keepsRule F r) (eachOf (keepsRule F) p) k), rules-count p (second (keepsRule F r) (eachOf (keepsRule F) p) k))
 
-  rules-length : (p : Program) → T (all (keepsRule F) p) → translatedLengths p ≤ length p * (66 * F .heads + 5 * (F .positives + F .nafs) + 24)
+  rules-length : (p : Program) → T (eachOf (keepsRule F) p) → translatedLengths p ≤ length p * (66 * F .heads + 5 * (F .positives + F .nafs) + 24)
   unfolding translatedLengths
   rules-length [] k = omega arith
-  rules-length (r ∷ p) k = omega (arith, rule-length r (first (keepsRule F r) (all (keepsRule F) p) k), rules-length p (second (keepsRule F r) (all (keepsRule F) p) k))
+  rules-length (r ∷ p) k = omega (arith, rule-length r (first (keepsRule F r) (eachOf (keepsRule F) p) k), rules-length p (second (keepsRule F r) (eachOf (keepsRule F) p) k))
 
   -- the translation keeps G's limits
   pub translation-keeps : (p : Program) → T (keepsRules F p) → T (keepsRules G (translation p))
@@ -184,7 +184,7 @@ module _ (F G : Limits) (room : Room F G) where
   translation-keeps p k =
       let many = rules-count p (keeps-each F p k) in
       let grown = mul-le-mul-right (3 * F .heads + 2) (keeps-count F p k) in
-      both (leb (length (translation p)) (G .rules)) (all (keepsRule G) (translation p))
+      both (leb (length (translation p)) (G .rules)) (eachOf (keepsRule G) (translation p))
       (le→leb (length (translation p)) (G .rules) (omega (arith, count-translation p, many, grown, room .rules)))
       (from-keeps 1 p (omega arith) (omega (arith, keeps-count F p k)) (keeps-each F p k))
 

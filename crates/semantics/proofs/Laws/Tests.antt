@@ -1,12 +1,12 @@
--- Tests as facts: what `&&`, `||`, `not`, `any` and `all` say of their parts. `T b` says that the test b passes.
--- In order: connectives; decisions; any and all against membership; of a map and of an append; where two tests agree.
+-- Tests as facts: what `&&`, `||`, `not`, `someOf` and `eachOf` say of their parts. `T b` says that the test b passes.
+-- In order: connectives; decisions; someOf and eachOf against membership; of a map and of an append; where two tests agree.
 -- Assumes nothing.
 use mathlib.Core.Path.{_≡_, refl, sym, ap, ap₂, subst}
 use mathlib.Core.Bool.{Bool, true, false, not, _&&_, _||_, or-assoc, and-assoc}
 use mathlib.Core.Logic.{_⊎_, inl, inr}
 use mathlib.Core.List.{List, [], _∷_, _++_, map, List·Memᴰ, List·Memᴰ·head, List·Memᴰ·tail}
 use lib.Dec.{T}
-use Rattle.semantics.specs.Set.{any, all}
+use Rattle.semantics.specs.Set.{someOf, eachOf}
 
 -- a conjunction passes where both parts do
 pub both : (a b : Bool) → T a → T b → T (a && b)
@@ -67,49 +67,49 @@ along e t = subst T e t
 
 module _ {A : Type 0} where
   -- some element passes
-  pub any-mem : (f : A → Bool) {x : A} {xs : List A} → List·Memᴰ x xs → T (f x) → T (any f xs)
-  any-mem f (List·Memᴰ·head {x} {xs} e) t = left (f x) (any f xs) (subst (λ y. T (f y)) e t)
-  any-mem f (List·Memᴰ·tail {x} {xs} m) t = right (f x) (any f xs) (any-mem f m t)
+  pub any-mem : (f : A → Bool) {x : A} {xs : List A} → List·Memᴰ x xs → T (f x) → T (someOf f xs)
+  any-mem f (List·Memᴰ·head {x} {xs} e) t = left (f x) (someOf f xs) (subst (λ y. T (f y)) e t)
+  any-mem f (List·Memᴰ·tail {x} {xs} m) t = right (f x) (someOf f xs) (any-mem f m t)
 
-  pub any-found : (f : A → Bool) (xs : List A) → T (any f xs) → (x : A) × List·Memᴰ x xs × T (f x)
+  pub any-found : (f : A → Bool) (xs : List A) → T (someOf f xs) → (x : A) × List·Memᴰ x xs × T (f x)
   any-found f [] t = absurd t
-  any-found f (x ∷ xs) t = go (λ u. any-found f xs u) (either (f x) (any f xs) t)
+  any-found f (x ∷ xs) t = go (λ u. any-found f xs u) (either (f x) (someOf f xs) t)
     where
-      go : (T (any f xs) → (y : A) × List·Memᴰ y xs × T (f y)) → T (f x) ⊎ T (any f xs) → (y : A) × List·Memᴰ y (x ∷ xs) × T (f y)
+      go : (T (someOf f xs) → (y : A) × List·Memᴰ y xs × T (f y)) → T (f x) ⊎ T (someOf f xs) → (y : A) × List·Memᴰ y (x ∷ xs) × T (f y)
       go below (inl u) = (x, List·Memᴰ·head refl, u)
       go below (inr u) = let r = below u in (r .0, List·Memᴰ·tail (r .1), r .2)
 
   -- each element passes
-  pub all-mem : (f : A → Bool) {x : A} {xs : List A} → T (all f xs) → List·Memᴰ x xs → T (f x)
-  all-mem f t (List·Memᴰ·head {x = y} {xs} e) = subst (λ z. T (f z)) (sym e) (first (f y) (all f xs) t)
-  all-mem f t (List·Memᴰ·tail {x = y} {xs} m) = all-mem f (second (f y) (all f xs) t) m
+  pub all-mem : (f : A → Bool) {x : A} {xs : List A} → T (eachOf f xs) → List·Memᴰ x xs → T (f x)
+  all-mem f t (List·Memᴰ·head {x = y} {xs} e) = subst (λ z. T (f z)) (sym e) (first (f y) (eachOf f xs) t)
+  all-mem f t (List·Memᴰ·tail {x = y} {xs} m) = all-mem f (second (f y) (eachOf f xs) t) m
 
-  pub all-intro : (f : A → Bool) (xs : List A) → ((x : A) → List·Memᴰ x xs → T (f x)) → T (all f xs)
+  pub all-intro : (f : A → Bool) (xs : List A) → ((x : A) → List·Memᴰ x xs → T (f x)) → T (eachOf f xs)
   all-intro f [] h = tt
-  all-intro f (x ∷ xs) h = both (f x) (all f xs) (h x (List·Memᴰ·head refl)) (all-intro f xs (λ y m. h y (List·Memᴰ·tail m)))
+  all-intro f (x ∷ xs) h = both (f x) (eachOf f xs) (h x (List·Memᴰ·head refl)) (all-intro f xs (λ y m. h y (List·Memᴰ·tail m)))
 
-  pub any-append : (f : A → Bool) (xs ys : List A) → any f (xs ++ ys) ≡ (any f xs || any f ys)
+  pub any-append : (f : A → Bool) (xs ys : List A) → someOf f (xs ++ ys) ≡ (someOf f xs || someOf f ys)
   any-append f [] ys = refl
-  any-append f (x ∷ xs) ys = rw (any-append f xs ys) (sym (or-assoc (f x) (any f xs) (any f ys)))
+  any-append f (x ∷ xs) ys = rw (any-append f xs ys) (sym (or-assoc (f x) (someOf f xs) (someOf f ys)))
 
-  pub all-append : (f : A → Bool) (xs ys : List A) → all f (xs ++ ys) ≡ (all f xs && all f ys)
+  pub all-append : (f : A → Bool) (xs ys : List A) → eachOf f (xs ++ ys) ≡ (eachOf f xs && eachOf f ys)
   all-append f [] ys = refl
-  all-append f (x ∷ xs) ys = rw (all-append f xs ys) (sym (and-assoc (f x) (all f xs) (all f ys)))
+  all-append f (x ∷ xs) ys = rw (all-append f xs ys) (sym (and-assoc (f x) (eachOf f xs) (eachOf f ys)))
 
-  -- where two tests agree on a list, so do any and all
-  pub any-agree : {f g : A → Bool} (xs : List A) → ((x : A) → List·Memᴰ x xs → f x ≡ g x) → any f xs ≡ any g xs
+  -- where two tests agree on a list, so do someOf and eachOf
+  pub any-agree : {f g : A → Bool} (xs : List A) → ((x : A) → List·Memᴰ x xs → f x ≡ g x) → someOf f xs ≡ someOf g xs
   any-agree [] h = refl
   any-agree (x ∷ xs) h = ap₂ (λ a b. a || b) (h x (List·Memᴰ·head refl)) (any-agree xs (λ y m. h y (List·Memᴰ·tail m)))
 
-  pub all-agree : {f g : A → Bool} (xs : List A) → ((x : A) → List·Memᴰ x xs → f x ≡ g x) → all f xs ≡ all g xs
+  pub all-agree : {f g : A → Bool} (xs : List A) → ((x : A) → List·Memᴰ x xs → f x ≡ g x) → eachOf f xs ≡ eachOf g xs
   all-agree [] h = refl
   all-agree (x ∷ xs) h = ap₂ (λ a b. a && b) (h x (List·Memᴰ·head refl)) (all-agree xs (λ y m. h y (List·Memᴰ·tail m)))
 
 module _ {A B : Type 0} where
-  pub any-map : (f : B → Bool) (g : A → B) (xs : List A) → any f (map g xs) ≡ any (λ x. f (g x)) xs
+  pub any-map : (f : B → Bool) (g : A → B) (xs : List A) → someOf f (map g xs) ≡ someOf (λ x. f (g x)) xs
   any-map f g [] = refl
   any-map f g (x ∷ xs) = ap (λ b. f (g x) || b) (any-map f g xs)
 
-  pub all-map : (f : B → Bool) (g : A → B) (xs : List A) → all f (map g xs) ≡ all (λ x. f (g x)) xs
+  pub all-map : (f : B → Bool) (g : A → B) (xs : List A) → eachOf f (map g xs) ≡ eachOf (λ x. f (g x)) xs
   all-map f g [] = refl
   all-map f g (x ∷ xs) = ap (λ b. f (g x) && b) (all-map f g xs)

@@ -10,7 +10,7 @@ use Rattle.literal.specs.declared.Tag.{Tag}
 use Rattle.literal.specs.declared.SignedAtom.{SignedAtom}
 use Rattle.literal.specs.declared.Literal.{Literal}
 use Rattle.literal.specs.declared.Literal.the-variants.{Signed, Defeated, Derived}
-use Rattle.semantics.specs.Set.{LiteralSet, any, all}
+use Rattle.semantics.specs.Set.{LiteralSet, someOf, eachOf}
 use Rattle.semantics.specs.Rule.{Rule, strict, defeasible, Program}
 use Rattle.semantics.specs.Meaning.{remainder, quotient, satisfied, models}
 use Rattle.semantics.specs.Translation.{ruleDefeated, choice, allDefeated, holdsIfDerived, derivedIfHolds, neverBoth, option, options, translatedRule, translationFrom, translation}
@@ -22,9 +22,9 @@ use Rattle.semantics.proofs.Laws.Position.{At, here, there}
 -- naf literals c
 pub record Marked (n : ℕ) (t : Tag) (h : List SignedAtom) (b c : List Literal) (s u : LiteralSet) : Type 0 where
   -- (2)
-  pub chosen : (T (any s c) → ⊥) → (T (s (ruleDefeated n)) → ⊥) → T (all u b) → (a : SignedAtom) × List·Memᴰ a h × T (u (Derived t a))
+  pub chosen : (T (someOf s c) → ⊥) → (T (s (ruleDefeated n)) → ⊥) → T (eachOf u b) → (a : SignedAtom) × List·Memᴰ a h × T (u (Derived t a))
   -- (3)
-  pub ruled : T (all (λ a. u (Defeated t a)) h) → T (u (ruleDefeated n))
+  pub ruled : T (eachOf (λ a. u (Defeated t a)) h) → T (u (ruleDefeated n))
   -- (4)
   pub holds : {a : SignedAtom} → List·Memᴰ a h → T (u (Derived t a)) → T (u (Signed a))
   -- (5)
@@ -40,7 +40,7 @@ pub record Option (t : Tag) (s u : LiteralSet) (a : SignedAtom) : Type 0 where
 
 -- what is left of each rule of a list holds
 abbrev kept : LiteralSet → LiteralSet → List Rule → Bool
-kept s u rs = all (λ r. satisfied (remainder r s) u) rs
+kept s u rs = eachOf (λ r. satisfied (remainder r s) u) rs
 
 -- a list's first rule, and the others
 kept-cons : (s u : LiteralSet) (r : Rule) (rs : List Rule) → T (kept s u (r ∷ rs)) ↔ (Kept r s u × T (kept s u rs))
@@ -51,16 +51,16 @@ kept-cons s u r rs =
     )
 
 -- a list of one literal
-pub any-one : (s : LiteralSet) (l : Literal) → T (any s (l ∷ [])) → T (s l)
+pub any-one : (s : LiteralSet) (l : Literal) → T (someOf s (l ∷ [])) → T (s l)
 any-one s l t = ⊎-elim (λ y. y) (λ z. absurd z) (either (s l) false t)
 
-pub one-any : (s : LiteralSet) (l : Literal) → T (s l) → T (any s (l ∷ []))
+pub one-any : (s : LiteralSet) (l : Literal) → T (s l) → T (someOf s (l ∷ []))
 one-any s l t = left (s l) false t
 
-all-one : (s : LiteralSet) (l : Literal) → T (all s (l ∷ [])) → T (s l)
+all-one : (s : LiteralSet) (l : Literal) → T (eachOf s (l ∷ [])) → T (s l)
 all-one s l t = first (s l) true t
 
-one-all : (s : LiteralSet) (l : Literal) → T (s l) → T (all s (l ∷ []))
+one-all : (s : LiteralSet) (l : Literal) → T (s l) → T (eachOf s (l ∷ []))
 one-all s l t = both (s l) true t tt
 
 option-kept : (t : Tag) (s u : LiteralSet) (a : SignedAtom) → T (kept s u (option t a)) → Option t s u a
@@ -105,21 +105,21 @@ options-intro t (a ∷ h) s u f =
 
 -- (2): some derivation mark, unless the rule is gone from the quotient
 choice-kept : (n : ℕ) (t : Tag) (h : List SignedAtom) (b c : List Literal) (s u : LiteralSet) → Kept (choice n t h b c) s u
-    → (T (any s c) → ⊥) → (T (s (ruleDefeated n)) → ⊥) → T (all u b) → (a : SignedAtom) × List·Memᴰ a h × T (u (Derived t a))
+    → (T (someOf s c) → ⊥) → (T (s (ruleDefeated n)) → ⊥) → T (eachOf u b) → (a : SignedAtom) × List·Memᴰ a h × T (u (Derived t a))
 unfolding choice
 choice-kept n t h b c s u k f g body = any-found (λ a. u (Derived t a)) h (along (any-map u (Derived t) h) (k absent body))
   where
-    absent : T (any s (c ++ (ruleDefeated n ∷ []))) → ⊥
-    absent y = ⊎-elim f (λ z. g (any-one s (ruleDefeated n) z)) (either (any s c) (any s (ruleDefeated n ∷ [])) (along (any-append s c (ruleDefeated n ∷ [])) y))
+    absent : T (someOf s (c ++ (ruleDefeated n ∷ []))) → ⊥
+    absent y = ⊎-elim f (λ z. g (any-one s (ruleDefeated n) z)) (either (someOf s c) (someOf s (ruleDefeated n ∷ [])) (along (any-append s c (ruleDefeated n ∷ [])) y))
 
 choice-intro : (n : ℕ) (t : Tag) (h : List SignedAtom) (b c : List Literal) (s u : LiteralSet)
-    → ((T (any s c) → ⊥) → (T (s (ruleDefeated n)) → ⊥) → T (all u b) → (a : SignedAtom) × List·Memᴰ a h × T (u (Derived t a))) → Kept (choice n t h b c) s u
+    → ((T (someOf s c) → ⊥) → (T (s (ruleDefeated n)) → ⊥) → T (eachOf u b) → (a : SignedAtom) × List·Memᴰ a h × T (u (Derived t a))) → Kept (choice n t h b c) s u
 unfolding choice
 choice-intro n t h b c s u k f body =
-    let w = k (λ y. f (within (left (any s c) (any s (ruleDefeated n ∷ [])) y))) (λ y. f (within (right (any s c) (any s (ruleDefeated n ∷ [])) (one-any s (ruleDefeated n) y)))) body in
+    let w = k (λ y. f (within (left (someOf s c) (someOf s (ruleDefeated n ∷ [])) y))) (λ y. f (within (right (someOf s c) (someOf s (ruleDefeated n ∷ [])) (one-any s (ruleDefeated n) y)))) body in
     along (sym (any-map u (Derived t) h)) (any-mem (λ a. u (Derived t a)) (w .1) (w .2))
   where
-    within : T (any s c || any s (ruleDefeated n ∷ [])) → T (any s (c ++ (ruleDefeated n ∷ [])))
+    within : T (someOf s c || someOf s (ruleDefeated n ∷ [])) → T (someOf s (c ++ (ruleDefeated n ∷ [])))
     within y = along (sym (any-append s c (ruleDefeated n ∷ []))) y
 
 -- a defeasible rule's translation, by (2) to (6)

@@ -1,6 +1,6 @@
 -- Laws of the check (01, "Check"): what each finding says of a program and of a set that is given as a list.
 -- In order: the first of a list's elements that passes a test; the first clash; the first broken rule; smaller models;
--- the findings. Not here: the first part that passes a test (`Part`).
+-- the findings. Not here: what the findings say (`specs/Findings`); the first part that passes a test (`Part`).
 -- Assumes nothing.
 use Prim.Native.Nat.{ℕ, _+_}
 use native.Mathlib.Omega.{arith}
@@ -15,33 +15,20 @@ use Rattle.literal.specs.declared.SignedAtom.the-variants.{Positive, Negative}
 use Rattle.literal.specs.declared.Literal.{Literal}
 use Rattle.literal.specs.declared.Literal.the-variants.{Signed, Defeated, Derived, RuleDefeated}
 use Rattle.literal.specs.Literal.{opposite}
-use Rattle.semantics.specs.Set.{LiteralSet, all, ProperSubset, setOf}
+use Rattle.semantics.specs.Set.{LiteralSet, eachOf, ProperSubset, setOf}
 use Rattle.semantics.specs.Rule.{Rule, Program, Remainder}
 use Rattle.semantics.specs.Meaning.{remainder, quotient, satisfied, models, Interpretation, AnswerSet}
 use Rattle.semantics.specs.Verdict.{Finding, clash, broken, smaller, answerSet, opposed, clashFrom, brokenFrom, firstSubset, smallerModel, finding}
+use Rattle.semantics.specs.Findings.{FirstAt, FirstPassing, FirstOpposed, FirstBroken, BrokenAt, Part, SmallerBy}
 use Rattle.semantics.proofs.Laws.Tests.{both, first, second, fails, refuted, is-true, is-false, along, all-mem, all-intro}
 use Rattle.semantics.proofs.Laws.Set.{set-of-mem, mem-set-of, set-ext}
 use Rattle.semantics.proofs.Laws.Meaning.{models-quotient}
-use Rattle.semantics.proofs.Laws.Part.{Part, Before, first-none, none-first, first-some, some-first, part-subset, filtered-part, set-of-filtered}
+use Rattle.semantics.proofs.Laws.Part.{first-none, none-first, first-some, some-first, part-subset, filtered-part, set-of-filtered}
 
 -- a test whose negation fails passes
 unrefuted : (b : Bool) → (T (not b) → ⊥) → T b
 unrefuted true f = tt
 unrefuted false f = f tt
-
--- xs, whose first element has position k: Found holds of the element at position n, and Passed of each before it
-pub record FirstAt {A : Type 0} (Found Passed : A → Type 0) (k : ℕ) (xs : List A) (n : ℕ) : Type 0 where
-  pub before : List A
-  pub here : A
-  pub after : List A
-  pub splits : xs ≡ before ++ (here ∷ after)
-  pub position : n ≡ k + length before
-  pub found : Found here
-  pub passed : (x : A) → List·Memᴰ x before → Passed x
-
--- the element at position n is the first that passes a test
-abbrev pub FirstPassing : {A : Type 0} → (A → Bool) → ℕ → List A → ℕ → Type 0
-FirstPassing f = FirstAt (λ x. T (f x)) (λ x. T (f x) → ⊥)
 
 found-none : (b : Bool) (k : ℕ) (o : Option ℕ) → cond b (some k) o ≡ none → (b ≡ false) × (o ≡ none)
 found-none true k o e = absurd (Option·some-ne-none k e)
@@ -127,52 +114,44 @@ module _ {A : Type 0} where
         passed = λ x m. g x (w .passed x m);
       }
 
--- the literal of ls at position n, counted from k, is the first whose opposite is in s
-abbrev pub FirstOpposed : Program → LiteralSet → ℕ → List Literal → ℕ → Type 0
-FirstOpposed p s = FirstPassing (opposed p s)
-
-clash-from : (k : ℕ) (p : Program) (s : LiteralSet) (ls : List Literal) → clashFrom k p s ls ≡ firstFrom (opposed p s) k ls
+clash-from : (k : ℕ) (s : LiteralSet) (ls : List Literal) → clashFrom k s ls ≡ firstFrom (opposed s) k ls
 unfolding clashFrom firstFrom
-clash-from k p s [] = refl
-clash-from k p s (l ∷ ls) = rw (clash-from (k + 1) p s ls)
+clash-from k s [] = refl
+clash-from k s (l ∷ ls) = rw (clash-from (k + 1) s ls)
 
 -- no clash is found exactly if no literal of the list has its opposite in the set
-pub clash-none : (k : ℕ) (p : Program) (s : LiteralSet) (ls : List Literal) → (clashFrom k p s ls ≡ none) ↔ ((l : Literal) → List·Memᴰ l ls → T (opposed p s l) → ⊥)
-clash-none k p s ls =
-    (λ e l m. none-passes (opposed p s) k (sym (clash-from k p s ls) ∙ e) m, λ h. clash-from k p s ls ∙ passes-none (opposed p s) k ls h)
+pub clash-none : (k : ℕ) (s : LiteralSet) (ls : List Literal) → (clashFrom k s ls ≡ none) ↔ ((l : Literal) → List·Memᴰ l ls → T (opposed s l) → ⊥)
+clash-none k s ls =
+    (λ e l m. none-passes (opposed s) k (sym (clash-from k s ls) ∙ e) m, λ h. clash-from k s ls ∙ passes-none (opposed s) k ls h)
 
 -- what is found is the first literal whose opposite is in the set
-pub clash-some : (k : ℕ) (p : Program) (s : LiteralSet) (ls : List Literal) (n : ℕ) → clashFrom k p s ls ≡ some n → FirstOpposed p s k ls n
-clash-some k p s ls n e = first-passes (opposed p s) k ls n (sym (clash-from k p s ls) ∙ e)
+pub clash-some : (k : ℕ) (s : LiteralSet) (ls : List Literal) (n : ℕ) → clashFrom k s ls ≡ some n → FirstOpposed s k ls n
+clash-some k s ls n e = first-passes (opposed s) k ls n (sym (clash-from k s ls) ∙ e)
 
 -- the first literal whose opposite is in the set is found
-pub some-clash : (k : ℕ) (p : Program) (s : LiteralSet) (ls : List Literal) (n : ℕ) → FirstOpposed p s k ls n → clashFrom k p s ls ≡ some n
-some-clash k p s ls n w = clash-from k p s ls ∙ first-found (opposed p s) k ls n w
+pub some-clash : (k : ℕ) (s : LiteralSet) (ls : List Literal) (n : ℕ) → FirstOpposed s k ls n → clashFrom k s ls ≡ some n
+some-clash k s ls n w = clash-from k s ls ∙ first-found (opposed s) k ls n w
 
-interpretation-opposed : (p : Program) (ls : List Literal) → Interpretation p (setOf ls) → (l : Literal) → List·Memᴰ l ls → T (opposed p (setOf ls) l) → ⊥
+interpretation-opposed : (ls : List Literal) → Interpretation (setOf ls) → (l : Literal) → List·Memᴰ l ls → T (opposed (setOf ls) l) → ⊥
 unfolding Interpretation opposed opposite
-interpretation-opposed p ls i (Signed (Positive a)) m t = i a (set-of-mem m) t
-interpretation-opposed p ls i (Signed (Negative a)) m t = i a t (set-of-mem m)
-interpretation-opposed p ls i (Defeated u a) m t = t
-interpretation-opposed p ls i (Derived u a) m t = t
-interpretation-opposed p ls i (RuleDefeated n) m t = t
+interpretation-opposed ls i (Signed (Positive a)) m t = i a (set-of-mem m) t
+interpretation-opposed ls i (Signed (Negative a)) m t = i a t (set-of-mem m)
+interpretation-opposed ls i (Defeated u a) m t = t
+interpretation-opposed ls i (Derived u a) m t = t
+interpretation-opposed ls i (RuleDefeated n) m t = t
 
-opposed-interpretation : (p : Program) (ls : List Literal) → ((l : Literal) → List·Memᴰ l ls → T (opposed p (setOf ls) l) → ⊥) → Interpretation p (setOf ls)
+opposed-interpretation : (ls : List Literal) → ((l : Literal) → List·Memᴰ l ls → T (opposed (setOf ls) l) → ⊥) → Interpretation (setOf ls)
 unfolding Interpretation opposed opposite
-opposed-interpretation p ls h a y z = h (Signed (Positive a)) (mem-set-of (Signed (Positive a)) ls y) z
+opposed-interpretation ls h a y z = h (Signed (Positive a)) (mem-set-of (Signed (Positive a)) ls y) z
 
 -- no clash is found exactly if the list is an interpretation, wherever the count starts
-pub clash-from-none-iff : (k : ℕ) (p : Program) (ls : List Literal) → (clashFrom k p (setOf ls) ls ≡ none) ↔ Interpretation p (setOf ls)
-clash-from-none-iff k p ls =
-    Iff·trans (clash-none k p (setOf ls) ls) (opposed-interpretation p ls, interpretation-opposed p ls)
+pub clash-from-none-iff : (k : ℕ) (ls : List Literal) → (clashFrom k (setOf ls) ls ≡ none) ↔ Interpretation (setOf ls)
+clash-from-none-iff k ls =
+    Iff·trans (clash-none k (setOf ls) ls) (opposed-interpretation ls, interpretation-opposed ls)
 
 -- the same, counted from 1 as the check does
-pub clash-none-iff : (p : Program) (ls : List Literal) → (clashFrom 1 p (setOf ls) ls ≡ none) ↔ Interpretation p (setOf ls)
-clash-none-iff p ls = clash-from-none-iff 1 p ls
-
--- rule number n of p, whose first rule has number k, is the first whose remainder in the quotient by s does not hold in s
-abbrev pub FirstBroken : LiteralSet → ℕ → Program → ℕ → Type 0
-FirstBroken s = FirstAt (λ r. T (satisfied (remainder r s) s) → ⊥) (λ r. T (satisfied (remainder r s) s))
+pub clash-none-iff : (ls : List Literal) → (clashFrom 1 (setOf ls) ls ≡ none) ↔ Interpretation (setOf ls)
+clash-none-iff ls = clash-from-none-iff 1 ls
 
 unsatisfied : LiteralSet → Rule → Bool
 unsatisfied s r = not (satisfied (remainder r s) s)
@@ -224,18 +203,18 @@ pub smaller-model-iff : (qs : List Remainder) {s ls : List Literal} → Part s l
     → T (smallerModel qs ls s) ↔ (ProperSubset (setOf s) (setOf ls) × T (models qs (setOf s)))
 unfolding smallerModel
 smaller-model-iff qs {s} {ls} w = (
-  λ t. (proper (first (not (all (setOf s) ls)) (models qs (setOf s)) t), second (not (all (setOf s) ls)) (models qs (setOf s)) t),
-  λ h. both (not (all (setOf s) ls)) (models qs (setOf s)) (refuted (all (setOf s) ls) (lacks (h .0))) (h .1),
+  λ t. (proper (first (not (eachOf (setOf s) ls)) (models qs (setOf s)) t), second (not (eachOf (setOf s) ls)) (models qs (setOf s)) t),
+  λ h. both (not (eachOf (setOf s) ls)) (models qs (setOf s)) (refuted (eachOf (setOf s) ls) (lacks (h .0))) (h .1),
 )
   where
-    proper : T (not (all (setOf s) ls)) → ProperSubset (setOf s) (setOf ls)
+    proper : T (not (eachOf (setOf s) ls)) → ProperSubset (setOf s) (setOf ls)
     proper t =
         record {
           subset = part-subset w;
-          differs = λ e. fails (all (setOf s) ls) t (all-intro (setOf s) ls (λ l m. subst (λ (v : LiteralSet). T (v l)) (sym e) (set-of-mem m)));
+          differs = λ e. fails (eachOf (setOf s) ls) t (all-intro (setOf s) ls (λ l m. subst (λ (v : LiteralSet). T (v l)) (sym e) (set-of-mem m)));
         }
 
-    lacks : ProperSubset (setOf s) (setOf ls) → T (all (setOf s) ls) → ⊥
+    lacks : ProperSubset (setOf s) (setOf ls) → T (eachOf (setOf s) ls) → ⊥
     lacks h t = h .differs (set-ext (setOf s) (setOf ls) (part-subset w) (λ l y. all-mem (setOf s) t (mem-set-of l ls y)))
 
 -- the finding, from what the three searches find
@@ -244,7 +223,7 @@ findingOf c b o =
     elim c [ some k ↦ clash k | none ↦ elim b [ some n ↦ broken n | none ↦ elim o [ some s ↦ smaller s | none ↦ answerSet ] ] ]
 
 finding-of : (p : Program) (ls : List Literal)
-    → finding p ls ≡ findingOf (clashFrom 1 p (setOf ls) ls) (brokenFrom 1 p (setOf ls)) (firstSubset ls (smallerModel (quotient p (setOf ls)) ls))
+    → finding p ls ≡ findingOf (clashFrom 1 (setOf ls) ls) (brokenFrom 1 p (setOf ls)) (firstSubset ls (smallerModel (quotient p (setOf ls)) ls))
 unfolding finding findingOf
 finding-of p ls = refl
 
@@ -276,39 +255,25 @@ answer-set-verdict none (some n) o e = (cc, cc, cc)
 answer-set-verdict none none (some s) e = (cc, cc, cc)
 answer-set-verdict none none none e = (refl, refl, refl)
 
--- what the finding broken n says: no clash, and rule n is the first that is broken
-pub record BrokenAt (p : Program) (ls : List Literal) (n : ℕ) : Type 0 where
-  pub consistent : Interpretation p (setOf ls)
-  pub rule : FirstBroken (setOf ls) 1 p n
-
--- what the finding smaller s says: no clash, a model, and s is the first part that is a proper subset and a model
-pub record SmallerBy (p : Program) (ls s : List Literal) : Type 0 where
-  pub consistent : Interpretation p (setOf ls)
-  pub model : T (models (quotient p (setOf ls)) (setOf ls))
-  pub part : Part s ls
-  pub proper : ProperSubset (setOf s) (setOf ls)
-  pub smaller : T (models (quotient p (setOf ls)) (setOf s))
-  pub first : (t : List Literal) (v : Part t ls) → Before v part → ProperSubset (setOf t) (setOf ls) → T (models (quotient p (setOf ls)) (setOf t)) → ⊥
-
 module _ (p : Program) (ls : List Literal) where
   -- where the three searches' results are known, so is the finding
-  pub found-as : {c b : Option ℕ} {o : Option (List Literal)} → clashFrom 1 p (setOf ls) ls ≡ c → brokenFrom 1 p (setOf ls) ≡ b
+  pub found-as : {c b : Option ℕ} {o : Option (List Literal)} → clashFrom 1 (setOf ls) ls ≡ c → brokenFrom 1 p (setOf ls) ≡ b
       → firstSubset ls (smallerModel (quotient p (setOf ls)) ls) ≡ o → finding p ls ≡ findingOf c b o
   found-as e f g = finding-of p ls ∙ rw (e, f, g)
 
   -- where the finding is known, so are the searches' results
-  clash-known : (k : ℕ) → finding p ls ≡ clash k → clashFrom 1 p (setOf ls) ls ≡ some k
+  clash-known : (k : ℕ) → finding p ls ≡ clash k → clashFrom 1 (setOf ls) ls ≡ some k
   clash-known k e = clash-verdict _ _ _ k (sym (finding-of p ls) ∙ e)
 
-  broken-known : (n : ℕ) → finding p ls ≡ broken n → (clashFrom 1 p (setOf ls) ls ≡ none) × (brokenFrom 1 p (setOf ls) ≡ some n)
+  broken-known : (n : ℕ) → finding p ls ≡ broken n → (clashFrom 1 (setOf ls) ls ≡ none) × (brokenFrom 1 p (setOf ls) ≡ some n)
   broken-known n e = broken-verdict _ _ _ n (sym (finding-of p ls) ∙ e)
 
   -- the finding is clash k exactly if literal k is the first whose opposite is in the set
-  pub finding-clash : (k : ℕ) → (finding p ls ≡ clash k) ↔ FirstOpposed p (setOf ls) 1 ls k
+  pub finding-clash : (k : ℕ) → (finding p ls ≡ clash k) ↔ FirstOpposed (setOf ls) 1 ls k
   unfolding findingOf
   finding-clash k = (
-    λ e. clash-some 1 p (setOf ls) ls k (clash-known k e),
-    λ w. found-as (some-clash 1 p (setOf ls) ls k w) refl refl,
+    λ e. clash-some 1 (setOf ls) ls k (clash-known k e),
+    λ w. found-as (some-clash 1 (setOf ls) ls k w) refl refl,
   )
 
   -- the finding is broken n exactly if there is no clash and rule n is the first that is broken
@@ -316,8 +281,8 @@ module _ (p : Program) (ls : List Literal) where
   unfolding findingOf
   finding-broken n = (
     λ e. let h = broken-known n e in
-        record { consistent = clash-none-iff p ls .0 (h .0); rule = broken-some 1 p (setOf ls) n (h .1) },
-    λ w. found-as (clash-none-iff p ls .1 (w .consistent)) (some-broken 1 p (setOf ls) n (w .rule)) refl,
+        record { consistent = clash-none-iff ls .0 (h .0); rule = broken-some 1 p (setOf ls) n (h .1) },
+    λ w. found-as (clash-none-iff ls .1 (w .consistent)) (some-broken 1 p (setOf ls) n (w .rule)) refl,
   )
 
   -- the finding is smaller s exactly if the set is a model without a clash and s the first smaller model
@@ -334,7 +299,7 @@ module _ (p : Program) (ls : List Literal) where
           let w = first-some ls test s (h .2) in
           let q = smaller-model-iff (quotient p (setOf ls)) (w .part) .0 (w .passes) in
           record {
-            consistent = clash-none-iff p ls .0 (h .0);
+            consistent = clash-none-iff ls .0 (h .0);
             model = broken-none-iff 1 p (setOf ls) .0 (h .1);
             part = w .part;
             proper = q .0;
@@ -344,7 +309,7 @@ module _ (p : Program) (ls : List Literal) where
 
       back : SmallerBy p ls s → finding p ls ≡ smaller s
       back w =
-          found-as (clash-none-iff p ls .1 (w .consistent)) (broken-none-iff 1 p (setOf ls) .1 (w .model))
+          found-as (clash-none-iff ls .1 (w .consistent)) (broken-none-iff 1 p (setOf ls) .1 (w .model))
           (some-first test
           (record {
             part = w .part;
@@ -370,13 +335,13 @@ module _ (p : Program) (ls : List Literal) where
       forth e =
           let h = answer-set-verdict _ _ _ (sym (finding-of p ls) ∙ e) in
           record {
-            consistent = clash-none-iff p ls .0 (h .0);
+            consistent = clash-none-iff ls .0 (h .0);
             model = broken-none-iff 1 p (setOf ls) .0 (h .1);
             minimal = none-smaller (h .2);
           }
 
       back : AnswerSet p (setOf ls) → finding p ls ≡ answerSet
       back a =
-          found-as (clash-none-iff p ls .1 (a .consistent)) (broken-none-iff 1 p (setOf ls) .1 (a .model))
+          found-as (clash-none-iff ls .1 (a .consistent)) (broken-none-iff 1 p (setOf ls) .1 (a .model))
           (none-first ls (smallerModel (quotient p (setOf ls)) ls)
           (λ s w t. let q = smaller-model-iff (quotient p (setOf ls)) w .0 t in a .minimal (setOf s) (q .0) (q .1)))

@@ -11,13 +11,14 @@ use mathlib.Core.List.{List, [], _∷_, List·Memᴰ}
 use lib.Dec.{T}
 use Rattle.literal.specs.declared.Literal.{Literal}
 use Rattle.literal.specs.Literal.{opposite}
-use Rattle.semantics.specs.Set.{LiteralSet, any, all, Subset, setOf}
+use Rattle.semantics.specs.Set.{LiteralSet, someOf, eachOf, Subset, setOf}
 use Rattle.semantics.specs.Rule.{Program}
 use Rattle.semantics.specs.Meaning.{undefeated, unlessEmpty, remainder, withRemainder, quotient, holds, satisfied, models, AnswerSet}
 use Rattle.semantics.specs.Verdict.{Finding, clash, broken, smaller, answerSet, opposed, clashFrom, brokenFrom, orElse, withLiteral, firstSubset, smallerModel, finding}
+use Rattle.semantics.specs.Findings.{Part, nil, absent, present}
 use Rattle.semantics.proofs.Laws.Tests.{both, first, second, fails, any-mem, any-found, all-mem, all-intro}
 use Rattle.semantics.proofs.Laws.Set.{set-of-mem, mem-set-of, set-ext}
-use Rattle.semantics.proofs.Laws.Part.{Part, nil, absent, present, filtered, filtered-part, set-of-filtered}
+use Rattle.semantics.proofs.Laws.Part.{filtered, filtered-part, set-of-filtered}
 use Rattle.semantics.proofs.Laws.Verdict.{finding-answer-set}
 
 -- every part of a list passes a test
@@ -27,7 +28,7 @@ allParts (l ∷ ls) test = allParts ls test && allParts ls (λ s. test (l ∷ s)
 
 -- two lists have the same literals
 unfoldable pub sameLiterals : List Literal → List Literal → Bool
-sameLiterals s m = all (setOf m) s && all (setOf s) m
+sameLiterals s m = eachOf (setOf m) s && eachOf (setOf s) m
 
 -- nothing was found against the set
 unfoldable pub isAnswerSet : Finding → Bool
@@ -43,7 +44,7 @@ agree false b = not b
 
 -- a list is an answer set of p exactly if it has the same literals as one of these lists
 unfoldable pub listed : Program → List (List Literal) → List Literal → Bool
-listed p sets s = agree (isAnswerSet (finding p s)) (any (sameLiterals s) sets)
+listed p sets s = agree (isAnswerSet (finding p s)) (someOf (sameLiterals s) sets)
 
 -- each part of ls is an answer set of p exactly if it is listed. To unfold this test is to unfold all that it computes with
 unfoldable pub exactly : Program → List Literal → List (List Literal) → Bool
@@ -66,14 +67,14 @@ is-answer-set-iff answerSet = (λ y. refl, λ e. tt)
 pub same-literals-iff : (s m : List Literal) → T (sameLiterals s m) ↔ (setOf s ≡ setOf m)
 unfolding sameLiterals
 same-literals-iff s m = (
-  λ t. set-ext (setOf s) (setOf m) (within s m (first (all (setOf m) s) (all (setOf s) m) t)) (within m s (second (all (setOf m) s) (all (setOf s) m) t)),
-  λ e. both (all (setOf m) s) (all (setOf s) m) (contains s m e) (contains m s (sym e)),
+  λ t. set-ext (setOf s) (setOf m) (within s m (first (eachOf (setOf m) s) (eachOf (setOf s) m) t)) (within m s (second (eachOf (setOf m) s) (eachOf (setOf s) m) t)),
+  λ e. both (eachOf (setOf m) s) (eachOf (setOf s) m) (contains s m e) (contains m s (sym e)),
 )
   where
-    within : (s m : List Literal) → T (all (setOf m) s) → Subset (setOf s) (setOf m)
+    within : (s m : List Literal) → T (eachOf (setOf m) s) → Subset (setOf s) (setOf m)
     within s m t l y = all-mem (setOf m) t (mem-set-of l s y)
 
-    contains : (s m : List Literal) → setOf s ≡ setOf m → T (all (setOf m) s)
+    contains : (s m : List Literal) → setOf s ≡ setOf m → T (eachOf (setOf m) s)
     contains s m e = all-intro (setOf m) s (λ l w. subst (λ (u : LiteralSet). T (u l)) e (set-of-mem w))
 
 -- where every part passes a test, each does
@@ -88,7 +89,7 @@ all-parts test t (present {l} {ls} w) =
 abbrev pub OneOf : LiteralSet → List (List Literal) → Type 0
 OneOf u sets = (m : List Literal) × List·Memᴰ m sets × (u ≡ setOf m)
 
-one-of-iff : (s : List Literal) (sets : List (List Literal)) → T (any (sameLiterals s) sets) ↔ OneOf (setOf s) sets
+one-of-iff : (s : List Literal) (sets : List (List Literal)) → T (someOf (sameLiterals s) sets) ↔ OneOf (setOf s) sets
 one-of-iff s sets = (
   λ t. let w = any-found (sameLiterals s) sets t in (w .0, w .1, same-literals-iff s (w .0) .0 (w .2)),
   λ w. any-mem (sameLiterals s) (w .1) (same-literals-iff s (w .0) .1 (w .2)),
@@ -103,7 +104,7 @@ unfolding listed
 listed-iff p sets s t =
     Iff·trans (Iff·symm (finding-answer-set p s))
     (Iff·trans (Iff·symm (is-answer-set-iff (finding p s)))
-    (Iff·trans (agree-iff (isAnswerSet (finding p s)) (any (sameLiterals s) sets) t) (one-of-iff s sets)))
+    (Iff·trans (agree-iff (isAnswerSet (finding p s)) (someOf (sameLiterals s) sets) t) (one-of-iff s sets)))
 
 -- where the test passes, of all sets over the literals of ls exactly those of the lists are answer sets
 pub exactly-within : (p : Program) (ls : List Literal) (sets : List (List Literal)) → T (exactly p ls sets)

@@ -22,8 +22,8 @@ use Rattle.record.specs.Result.{Result, accepted, refused}
 use Rattle.record.specs.Layout.{encodedEnd, encodedProgram}
 use Rattle.record.specs.Reading.{parsed, reading}
 use Rattle.showing.specs.Show.{extentFrom, shown}
-use Rattle.showing.specs.Walk.{walked, Walks}
-use Rattle.record.proofs.Laws.Reading.{parsed-sound, read-rules, read-refused}
+use Rattle.showing.specs.Code.{walked, Walks}
+use Rattle.record.proofs.Laws.Reading.{parsed-sound, read-count, read-refused}
 use Rattle.showing.proofs.Laws.Walk.{program-walks, walked-fits}
 
 module _ (F : Limits) (s : List ℕ) (n : ℕ) where
@@ -38,18 +38,18 @@ module _ (F : Limits) (s : List ℕ) (n : ℕ) where
   unfolding reading shown show numbered
   shown-refused x e = ap show (read-refused (parsed F s) x e)
 
-  module _ (k : ℕ) (read : reading F s ≡ Reading.Rules k) where
+  module _ (k : ℕ) (read : reading F s ≡ Reading.Count k) where
     p : Program
     unfolding reading
-    p = read-rules (parsed F s) k read .0
+    p = read-count (parsed F s) k read .0
 
     parsed-is : parsed F s ≡ accepted p
     unfolding reading p
-    parsed-is = read-rules (parsed F s) k read .1
+    parsed-is = read-count (parsed F s) k read .1
 
     count-is : length p ≡ k
     unfolding reading p
-    count-is = read-rules (parsed F s) k read .2
+    count-is = read-count (parsed F s) k read .2
 
     shown-numbered : shown F s n ≡ numbered p
     unfolding shown show numbered

@@ -9,11 +9,11 @@ use lib.Seq.{drop-drop, drop-at}
 use Rattle.semantics.specs.Rule.{Rule, Program}
 use Rattle.semantics.specs.Translation.{recordLength}
 use Rattle.record.specs.Layout.{encodedRule, encodedRules}
-use Rattle.record.specs.Size.{recordSize}
+use Rattle.record.specs.Code.{recordSize}
 use Rattle.record.proofs.Laws.Layout.{length-encoded-rule}
 use Rattle.record.proofs.Laws.Size.{size-record}
 use Rattle.showing.specs.Show.{extentFrom}
-use Rattle.showing.specs.Walk.{walked, Walks}
+use Rattle.showing.specs.Code.{walked, Walks}
 
 module _ (s : List ℕ) (at : ℕ) where
   -- a step to the next record
@@ -61,7 +61,7 @@ module _ (s tail : List ℕ) where
   unfolding encodedRules
   size-here r p at e = ap recordSize (e ∙ append-assoc (encodedRule r) (encodedRules p) tail) ∙ size-record r (encodedRules p ++ tail)
 
-  behind : (r : Rule) (p : Program) (at : ℕ) → drop at s ≡ encodedRules (r ∷ p) ++ tail → drop (at + recordLength r) s ≡ encodedRules p ++ tail
+  pub behind : (r : Rule) (p : Program) (at : ℕ) → drop at s ≡ encodedRules (r ∷ p) ++ tail → drop (at + recordLength r) s ≡ encodedRules p ++ tail
   unfolding encodedRules
   behind r p at e =
       sym (drop-drop (recordLength r) at s) ∙ ap (drop (recordLength r)) (e ∙ append-assoc (encodedRule r) (encodedRules p) tail)

@@ -23,8 +23,8 @@ use Rattle.record.specs.Reading.{parsed}
 use Rattle.record.proofs.Laws.Layout.{length-encoded-program}
 use Rattle.record.proofs.Laws.Delivered.{meets-refused, meets-short, meets-written}
 use Rattle.translate.specs.Translate.{translatedBytes, translated}
-use Rattle.measure.specs.Measure.{measured, Writable}
-use Rattle.rewrite.specs.Pass.{Translatable}
+use Rattle.measure.specs.Code.{measured, Writable}
+use Rattle.rewrite.specs.Code.{Translatable}
 use Rattle.record.specs.Meets.{Meets}
 use Rattle.measure.proofs.Laws.Measure.{measured-length, measured-refused}
 

@@ -7,16 +7,17 @@ use Rattle.literal.specs.declared.Limits.{Limits}
 use Rattle.literal.specs.Limits.{source, plain, sourceRules, plainRules}
 use Rattle.verdict.specs.declared.Check.{Check}
 use Rattle.verdict.specs.Check.{checked}
-use Rattle.verdict.specs.Meets.{MeetsCheck, Checkable}
+use Rattle.verdict.specs.Meets.{MeetsCheck}
+use Rattle.verdict.specs.Code.{Checkable}
 
 -- a clause for each of the form's rules has room
 source-checkable : Checkable source sourceRules sourceRules
 unfolding source
-source-checkable = record { sized = omega arith; rules = omega arith; checked = omega arith }
+source-checkable = record { sized = omega arith; rules = omega arith; numbered = omega arith; checked = omega arith }
 
 plain-checkable : Checkable plain plainRules plainRules
 unfolding plain
-plain-checkable = record { sized = omega arith; rules = omega arith; checked = omega arith }
+plain-checkable = record { sized = omega arith; rules = omega arith; numbered = omega arith; checked = omega arith }
 
 pub checkable-source : {F : Limits} → F ≡ source → Checkable F sourceRules sourceRules
 checkable-source e = subst (λ (G : Limits). Checkable G sourceRules sourceRules) (sym e) source-checkable

@@ -12,11 +12,14 @@ use Rattle.semantics.specs.Rule.{Program}
 use Rattle.semantics.specs.Verdict.{Finding, finding}
 use Rattle.record.specs.declared.Reason.the-variants.{OutputShort}
 use Rattle.record.specs.declared.Refusal.{Refusal}
+use Rattle.record.specs.declared.Reading.{Reading}
 use Rattle.record.specs.Refusal.{refusal}
-use Rattle.record.specs.Result.{Result, accepted, refused, andThen, refuseIf}
+use Rattle.record.specs.Result.{Result, accepted, refused, refuseIf}
 use Rattle.record.specs.Reading.{parsed}
-use Rattle.record.proofs.Laws.Result.{accepted-and-then, refused-and-then, refuse-if-true, refuse-if-false}
+use Rattle.record.proofs.Laws.Result.{refuse-if-true, refuse-if-false}
 use Rattle.litset.specs.Reading.{parsedSet}
+use Rattle.inputs.specs.Code.{inputsReading}
+use Rattle.inputs.proofs.Laws.Inputs.{inputs-refused, inputs-given}
 use Rattle.judge.specs.declared.Verdict.{Verdict}
 use Rattle.verdict.specs.declared.Check.{Check}
 use Rattle.buffer.specs.Write.{write}
@@ -25,39 +28,28 @@ use Rattle.verdict.specs.Check.{found, Checked, checkedOf, checked}
 use Rattle.verdict.specs.Meets.{MeetsCheck}
 
 module _ (F : Limits) (s k out : List ℕ) where
-  -- what is found of a set, once the program is read; and once the set is
-  withSet : Program → List Literal → Result Finding
-  withSet p ls = refuseIf (ltb (length out) (length k)) (refusal OutputShort 0) (accepted (finding p ls))
+  -- what is found of a program and a set that are read
+  ofInputs : Program → List Literal → Result Finding
+  ofInputs p ls = refuseIf (ltb (length out) (length k)) (refusal OutputShort 0) (accepted (finding p ls))
 
-  withProgram : Program → Result Finding
-  withProgram p = andThen (parsedSet F (F .checked) k) (withSet p)
+  -- a refusal of the program or the set
+  pub found-refused : (x : Refusal) → inputsReading F (F .checked) s k ≡ Reading.Refused x → found F s k out ≡ refused x
+  unfolding found ofInputs
+  found-refused x e = inputs-refused F (F .checked) s k ofInputs x e
 
-  pub found-program-refused : (x : Refusal) → parsed F s ≡ refused x → found F s k out ≡ refused x
-  unfolding found withProgram withSet
-  found-program-refused x e = ap (λ (q : Result Program). andThen q withProgram) e ∙ refused-and-then x withProgram
+  module _ (p : Program) (read : parsed F s ≡ accepted p) (ls : List Literal) (held : parsedSet F (F .checked) k ≡ accepted ls) where
+    both-read : found F s k out ≡ ofInputs p ls
+    unfolding found ofInputs
+    both-read = inputs-given F (F .checked) s k ofInputs p read ls held
 
-  module _ (p : Program) (read : parsed F s ≡ accepted p) where
-    program-read : found F s k out ≡ withProgram p
-    unfolding found withProgram withSet
-    program-read = ap (λ (q : Result Program). andThen q withProgram) read ∙ accepted-and-then p withProgram
+    -- 9
+    pub found-short : length out < length k → found F s k out ≡ refused (refusal OutputShort 0)
+    unfolding ofInputs
+    found-short h = both-read ∙ refuse-if-true (ltb (length out) (length k)) (refusal OutputShort 0) _ (lt-ltb (length out) (length k) h)
 
-    pub found-set-refused : (x : Refusal) → parsedSet F (F .checked) k ≡ refused x → found F s k out ≡ refused x
-    unfolding withProgram
-    found-set-refused x e = program-read ∙ ap (λ (q : Result (List Literal)). andThen q (withSet p)) e ∙ refused-and-then x (withSet p)
-
-    module _ (ls : List Literal) (held : parsedSet F (F .checked) k ≡ accepted ls) where
-      set-read : found F s k out ≡ withSet p ls
-      unfolding withProgram
-      set-read = program-read ∙ ap (λ (q : Result (List Literal)). andThen q (withSet p)) held ∙ accepted-and-then ls (withSet p)
-
-      -- 9
-      pub found-short : length out < length k → found F s k out ≡ refused (refusal OutputShort 0)
-      unfolding withSet
-      found-short h = set-read ∙ refuse-if-true (ltb (length out) (length k)) (refusal OutputShort 0) _ (lt-ltb (length out) (length k) h)
-
-      pub found-finding : length k ≤ length out → found F s k out ≡ accepted (finding p ls)
-      unfolding withSet
-      found-finding h = set-read ∙ refuse-if-false (ltb (length out) (length k)) (refusal OutputShort 0) _ (le-ltb (length out) (length k) h)
+    pub found-finding : length k ≤ length out → found F s k out ≡ accepted (finding p ls)
+    unfolding ofInputs
+    found-finding h = both-read ∙ refuse-if-false (ltb (length out) (length k)) (refusal OutputShort 0) _ (le-ltb (length out) (length k) h)
 
   -- a refusal is answered, and the output stays
   pub meets-refusal : (x : Refusal) → found F s k out ≡ refused x → MeetsCheck (checked F s k out) (Check.Refused x) out

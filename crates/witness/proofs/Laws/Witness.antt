@@ -15,14 +15,13 @@ use Rattle.literal.specs.Literal.{encoded}
 use Rattle.literal.proofs.Laws.Literal.{length-encoded}
 use Rattle.record.specs.Layout.{encodedLiterals}
 use Rattle.record.proofs.Laws.Layout.{length-encoded-literals}
-use Rattle.mask.specs.Mask.{has}
+use Rattle.mask.specs.Code.{has}
 use Rattle.litset.specs.Layout.{encodedSet}
-use Rattle.litset.specs.Header.{setHeader}
+use Rattle.litset.specs.Code.{setHeader}
 use Rattle.litset.proofs.Laws.Keys.{keys-behind}
-use Rattle.narrow.specs.Picked.{picked}
-use Rattle.narrow.proofs.Laws.Build.{picked-present, picked-absent}
+use Rattle.narrow.proofs.Laws.Build.{picked, picked-present, picked-absent}
 use Rattle.buffer.proofs.Laws.Before.{write-before}
-use Rattle.witness.specs.Witness.{pickedOne, pickedBytes, pickedRecord}
+use Rattle.witness.specs.Code.{pickedOne, pickedBytes, pickedRecord}
 
 module _ (x i : ℕ) (bs : List ℕ) where
   -- its position is in the mask, or not

@@ -1,31 +1,26 @@
-//! Rules and sets to bytes and back, as document 01 lays out records.
-//!
-//! What is decoded has been read or written by the library, so that its layout is known to be right.
+//! Rules and sets to bytes, as document 01 lays out records.
 
 use super::{Literal, Rule, SignedAtom};
+use std::ops::Range;
 
-const STRICT: &[u8] = b"S:";
-const DEFEASIBLE: &[u8] = b"D:";
-const END: &[u8] = b"E:";
-const SET: &[u8] = b"A:";
+pub const STRICT: [u8; 2] = *b"S:";
+pub const DEFEASIBLE: [u8; 2] = *b"D:";
+pub const END: [u8; 2] = *b"E:";
+pub const SET: [u8; 2] = *b"A:";
 
-/// Bytes of a rule's record before its literals, of a set's, and of a literal.
-const RULE_HEADER: usize = 7;
-const SET_HEADER: usize = 4;
-const LITERAL: usize = 5;
-
-/// A program's bytes, and where each rule's record starts in them.
+/// A program's bytes, and where each rule's record lies in them.
 pub struct Encoded {
     pub bytes: Vec<u8>,
-    pub starts: Vec<usize>,
+    pub records: Vec<Range<usize>>,
 }
 
 /// The rules' records and the end record. A part has at most 255 literals, a program at most 65,535 rules.
 pub fn encode_program(rules: &[Rule]) -> Encoded {
-    let mut encoded = Encoded { bytes: Vec::new(), starts: Vec::new() };
+    let mut encoded = Encoded { bytes: Vec::new(), records: Vec::new() };
     for rule in rules {
-        encoded.starts.push(encoded.bytes.len());
+        let start = encoded.bytes.len();
         encode_rule(rule, &mut encoded.bytes);
+        encoded.records.push(start..encoded.bytes.len());
     }
     encoded.bytes.extend(END);
     encoded.bytes.extend((rules.len() as u16).to_be_bytes());
@@ -46,10 +41,10 @@ pub fn encode_set(literals: &[Literal]) -> Option<Vec<u8>> {
     members.sort_unstable();
     members.dedup();
     let count = u16::try_from(members.len()).ok()?;
-    Some([SET, &count.to_be_bytes(), &members.concat()].concat())
+    Some([&SET, &count.to_be_bytes(), &members.concat()[..]].concat())
 }
 
-fn literal_bytes(literal: Literal) -> [u8; LITERAL] {
+fn literal_bytes(literal: Literal) -> [u8; 5] {
     let (kind, tag, number) = match literal {
         Literal::Signed(signed) => (sign(signed), 0, atom(signed)),
         Literal::Defeated(tag, signed) => (2 + sign(signed), tag, atom(signed)),
@@ -71,54 +66,4 @@ fn atom(signed: SignedAtom) -> u16 {
     match signed {
         SignedAtom::Atom(atom) | SignedAtom::Negated(atom) => atom,
     }
-}
-
-/// The rules of a program that the library reads.
-pub fn decode_program(mut bytes: &[u8]) -> Vec<Rule> {
-    let mut rules = Vec::new();
-    while !bytes.starts_with(END) {
-        let rule = decode_rule(bytes);
-        bytes = &bytes[RULE_HEADER + LITERAL * (rule.heads.len() + rule.positives.len() + rule.nafs.len())..];
-        rules.push(rule);
-    }
-    rules
-}
-
-/// The rule whose record starts the bytes.
-pub fn decode_rule(bytes: &[u8]) -> Rule {
-    let tag = number(&bytes[2..]);
-    let mut literals = bytes[RULE_HEADER..].chunks_exact(LITERAL).map(decode_literal);
-    let mut part = |count: u8| literals.by_ref().take(count.into()).collect();
-    Rule {
-        tag: if bytes.starts_with(DEFEASIBLE) { Some(tag) } else { None },
-        heads: part(bytes[4]),
-        positives: part(bytes[5]),
-        nafs: part(bytes[6]),
-    }
-}
-
-/// Whether the bytes begin as a set's record does.
-pub fn is_set_record(bytes: &[u8]) -> bool {
-    bytes.starts_with(SET)
-}
-
-/// The literals of a set that the library reads.
-pub fn decode_set(bytes: &[u8]) -> Vec<Literal> {
-    bytes[SET_HEADER..].chunks_exact(LITERAL).map(decode_literal).collect()
-}
-
-/// The literal whose bytes come first.
-pub fn decode_literal(bytes: &[u8]) -> Literal {
-    let (kind, tag, number) = (bytes[0], number(&bytes[1..]), number(&bytes[3..]));
-    let signed = if kind % 2 == 0 { SignedAtom::Atom(number) } else { SignedAtom::Negated(number) };
-    match kind {
-        0 | 1 => Literal::Signed(signed),
-        2 | 3 => Literal::Defeated(tag, signed),
-        4 | 5 => Literal::Derived(tag, signed),
-        _ => Literal::RuleDefeated(number),
-    }
-}
-
-fn number(bytes: &[u8]) -> u16 {
-    u16::from_be_bytes([bytes[0], bytes[1]])
 }

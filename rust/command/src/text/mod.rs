@@ -3,6 +3,7 @@
 //! The text form fixes layout alone: what a program or a set may hold is the library's to say. `parser` refuses only
 //! what has no bytes at all.
 
+mod decoder;
 mod encoder;
 mod lexer;
 mod listing;
@@ -11,8 +12,8 @@ mod parser;
 #[cfg(test)]
 mod tests;
 
-pub use encoder::{decode_literal, decode_program, decode_rule, decode_set};
-pub use encoder::{encode_program, encode_set, is_set_record, Encoded};
+pub use decoder::{decode_literal, decode_program, decode_rule, decode_set, is_set_record};
+pub use encoder::{encode_program, encode_set, Encoded};
 pub use listing::{list_literal, list_program, list_rule, list_set};
 pub use names::Names;
 pub use parser::{holds_set, parse_program, parse_set, Parsed};

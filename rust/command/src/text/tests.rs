@@ -174,6 +174,35 @@ impl Random {
         Rule { tag, heads: self.part(), positives: self.part(), nafs: self.part() }
     }
 
+    /// A literal that the library takes: an atom or its negation, a defeat mark, or, in the plain form, any mark.
+    fn taken_literal(&mut self, kinds: u64) -> Literal {
+        let (atom, tag) = (1 + self.below(500) as u16, 1 + self.below(200) as u16);
+        let signed = if self.below(2) == 0 { SignedAtom::Atom(atom) } else { SignedAtom::Negated(atom) };
+        match self.below(kinds) {
+            0 => Literal::Signed(signed),
+            1 => Literal::Defeated(tag, signed),
+            2 => Literal::Derived(tag, signed),
+            _ => Literal::RuleDefeated(1 + self.below(256) as u16),
+        }
+    }
+
+    fn taken_part(&mut self, count: u64, kinds: u64) -> Vec<Literal> {
+        (0..count).map(|_| self.taken_literal(kinds)).collect()
+    }
+
+    /// A rule that the library takes, with so many literals in each part: of a source, or of a plain program.
+    fn taken_rule(&mut self, counts: [u64; 3], is_plain: bool) -> Rule {
+        let kinds = if is_plain { 4 } else { 2 };
+        let [heads, positives, nafs] = counts;
+        let tag = if is_plain || heads == 0 || self.below(2) == 0 { None } else { Some(1 + self.below(200) as u16) };
+        Rule {
+            tag,
+            heads: self.taken_part(heads, if tag.is_some() { 1 } else { kinds }),
+            positives: self.taken_part(positives, kinds),
+            nafs: self.taken_part(nafs, kinds),
+        }
+    }
+
     fn names(&mut self) -> Names {
         let mut names = Names::default();
         for _ in 0..self.below(6) {
@@ -194,8 +223,8 @@ fn random_programs_come_back_from_their_bytes_and_their_listings() {
         let names = random.names();
         let encoded = encode_program(&rules);
         assert_eq!(decode_program(&encoded.bytes), rules);
-        for (rule, start) in rules.iter().zip(&encoded.starts) {
-            assert_eq!(decode_rule(&encoded.bytes[*start..]), *rule);
+        for (rule, record) in rules.iter().zip(&encoded.records) {
+            assert_eq!(decode_rule(&encoded.bytes[record.clone()]), *rule);
         }
 
         let listing = list_program(&rules, &names);
@@ -206,6 +235,60 @@ fn random_programs_come_back_from_their_bytes_and_their_listings() {
             assert!(listing.lines().nth(line - 1).unwrap().ends_with(&number), "{listing}");
         }
     }
+}
+
+/// Every `step`th rule, the last among them: decoding and encoding have its record where the library shows it.
+fn records_are_as_shown(program: &[u8], is_plain: bool, step: usize) {
+    let rules = decode_program(program);
+    let read = if is_plain { aspda::read_plain(program) } else { aspda::read_source(program) };
+    assert_eq!(read, Ok(rules.len() as u32));
+    let encoded = encode_program(&rules);
+    assert_eq!(encoded.bytes, program);
+    assert_eq!(encoded.records.len(), rules.len());
+    for (index, record) in encoded.records.into_iter().enumerate().rev().step_by(step) {
+        let number = index as u32 + 1;
+        let shown = if is_plain { aspda::show_plain(program, number) } else { aspda::show_source(program, number) };
+        assert_eq!(shown.unwrap().as_ptr_range(), program[record].as_ptr_range());
+        assert_eq!(decode_rule(shown.unwrap()), rules[index]);
+    }
+}
+
+#[test]
+fn records_lie_where_the_library_shows_them() {
+    let mut random = Random(0x2545_F491_4F6C_DD1D);
+    for is_plain in [false, true] {
+        for _ in 0..200 {
+            let count = random.below(12);
+            let rules: Vec<_> = (0..count)
+                .map(|_| {
+                    let counts = [random.below(17), random.below(17), random.below(17)];
+                    random.taken_rule(counts, is_plain)
+                })
+                .collect();
+            records_are_as_shown(&encode_program(&rules).bytes, is_plain, 1);
+        }
+    }
+}
+
+#[test]
+fn records_of_the_longest_programs_lie_where_the_library_shows_them() {
+    let mut random = Random(0x9E6C_63D0_876A_9A35);
+    let rules: Vec<_> = (0..256)
+        .map(|_| {
+            let rule = random.taken_rule([16, 16, 16], false);
+            // Each rule with options, so that the translation has as many rules as the plain form takes.
+            Rule { tag: Some(7), heads: random.taken_part(16, 1), ..rule }
+        })
+        .collect();
+    let source = encode_program(&rules).bytes;
+    assert_eq!(source.len(), 63_236);
+    records_are_as_shown(&source, false, 1);
+
+    let mut out = vec![0; aspda::translation_bound(&source)];
+    let translation = aspda::translate(&source, &mut out).unwrap();
+    assert_eq!((translation.len(), aspda::read_plain(translation)), (317_444, Ok(12_800)));
+    // Each call of show reads the whole program: all of them would take seconds.
+    records_are_as_shown(translation, true, 61);
 }
 
 #[test]

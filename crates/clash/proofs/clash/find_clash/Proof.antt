@@ -8,7 +8,7 @@ use lib.ListN.{length, drop}
 use borrow.Author.Needs.{needs}
 use denote.Ref.{now}
 use borrow.Rule.Slice.PartAt.{part-to-end}
-use Rattle.clash.specs.Clash.{opposedIn, clashAt}
+use Rattle.clash.specs.Code.{opposedIn, clashAt}
 use Rattle.clash.proofs.Laws.Clash.{clash-here, clash-next, clash-end}
 use Rattle.clash.proofs.clash.find_clash.Statement.{statement}
 use Rattle.clash.proofs.clash.find_clash.Tie as tie

@@ -1,13 +1,14 @@
--- `clash::is_opposed` meets its contract: a mark has no opposite, and the key of the other kind is searched.
+-- `clash::is_opposed` meets its contract: a mark has no opposite, and that of an atom is searched.
 -- Assumes nothing.
-use Prim.Native.Nat.{_-_}
 use native.Mathlib.Omega.{arith}
-use mathlib.Core.Path.{sym, _∙_, ap, ap₂}
+use mathlib.Core.Path.{sym, _∙_, ap}
 use lib.ListN.{getD}
 use borrow.Author.Needs.{needs}
 use denote.Ref.{now}
-use Rattle.literal.specs.Order.{keyOf}
-use Rattle.litset.specs.Keys.{hasKey}
+use Rattle.literal.specs.declared.SignedAtom.{SignedAtom}
+use Rattle.literal.specs.declared.Literal.the-variants.{Signed}
+use Rattle.literal.specs.Literal.{opposite, signedAtom}
+use Rattle.litset.specs.Code.{hasKey, keySet}
 use Rattle.clash.proofs.Laws.Clash.{opposed-mark, opposed-signed}
 use Rattle.clash.proofs.clash.is_opposed.Statement.{statement}
 use Rattle.clash.proofs.clash.is_opposed.Tie as tie
@@ -20,26 +21,32 @@ returns c =
     let a = c .before .before .before .before .args in
     sym (opposed-mark (now (a .set)) (a .n) (now (a .t)) (omega (arith, c .if1 .taken)))
 
-get-number-requires : tie.Need-get-number-requires
-get-number-requires c κs = search needs
+get-atom-requires : tie.Need-get-atom-requires
+get-atom-requires c κs = search needs
 
-get-number-requires-2 : tie.Need-get-number-requires-2
-get-number-requires-2 c κs = search needs
+sign-requires : tie.Need-sign-requires
+sign-requires c κs = search needs
 
-make-key-requires : tie.Need-make-key-requires
-make-key-requires c κs = search needs
+oppose-requires : tie.Need-oppose-requires
+oppose-requires c κs = search needs
+
+key-of-requires : tie.Need-key-of-requires
+key-of-requires c κs = search needs
 
 holds-requires : tie.Need-holds-requires
 holds-requires c κs = search needs
 
 returns-2 : tie.Need-returns-2
 returns-2 c =
-    let at-test = c .before .before .before .before in
+    let at-oppose = c .before .before in
+    let at-sign = at-oppose .before in
+    let at-test = at-sign .before .before in
     let a = at-test .before .before .before .before .args in
-    let key = c .before .make-key .ensures ∙ ap₂ (keyOf (1 - getD (now (a .t)) 0 0)) (c .before .before .before .get-number .ensures) (c .before .before .get-number2 .ensures) in
+    let atom = at-sign .sign .ensures ∙ ap (signedAtom (getD (now (a .t)) 0 0)) (at-sign .before .get-atom .ensures) in
     c .holds .ensures
-    ∙ ap (hasKey (now (a .set)) (a .n)) key
-    ∙ sym (opposed-signed (now (a .set)) (a .n) (now (a .t)) (omega (arith, at-test .if1 .left)))
+    ∙ (ap (hasKey (now (a .set)) (a .n)) (c .before .key-of .ensures)
+    ∙ (ap (λ (x : SignedAtom). keySet (now (a .set)) (a .n) (Signed x)) (at-oppose .oppose .ensures ∙ ap opposite atom)
+    ∙ sym (opposed-signed (now (a .set)) (a .n) (now (a .t)) (omega (arith, at-test .if1 .left)))))
 
 pub is-opposed-spec : {M : Type 1} → statement M
 is-opposed-spec =
@@ -47,8 +54,9 @@ is-opposed-spec =
     (tie.spec
     shared-slice-read-kind
     returns
-    get-number-requires
-    get-number-requires-2
-    make-key-requires
+    get-atom-requires
+    sign-requires
+    oppose-requires
+    key-of-requires
     holds-requires
     returns-2)

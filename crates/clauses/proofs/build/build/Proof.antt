@@ -10,10 +10,10 @@ use borrow.Author.Needs.{needs}
 use denote.Ref.{now}
 use borrow.Rule.Slice.PartAt.{part-to-end}
 use Rattle.buffer.specs.Bytes.{Bytes}
-use Rattle.record.specs.Size.{recordSize}
+use Rattle.record.specs.Code.{recordSize}
 use Rattle.record.proofs.Laws.Size.{size-large, Passed, passed}
-use Rattle.clauses.specs.Rule.{clauseAt}
-use Rattle.clauses.proofs.Laws.Pass.{Pass, pass-start, pass-next, built-whole, built-broken, asked-long, asked-ascends, asked-open, asked-fits, asked-room, asked-count}
+use Rattle.clauses.specs.Code.{clauseAt}
+use Rattle.clauses.proofs.Laws.Pass.{Pass, pass-start, pass-next, built-whole, built-broken, asked-long, asked-ascends, asked-open, asked-fits, asked-room, asked-number, asked-count}
 use Rattle.clauses.proofs.build.build.Statement.{statement}
 use Rattle.clauses.proofs.build.build.Tie as tie
 
@@ -135,7 +135,10 @@ add-at : tie.Need-add-at Inv-loop μ-loop
 add-at c = omega (arith, beyond c .fits)
 
 add-number : tie.Need-add-number Inv-loop μ-loop
-add-number c = omega (arith, few (c .before .before .before), inside (c .before .before .before .before .before .before .before), c .before .before .before .before .before .before .before .loop .inv .0)
+add-number c =
+    let at-loop = c .before .before .before .before .before .before .before in
+    let l = at-loop .loop in
+    omega (arith, asked-number (at-loop .before .before .before .before .before .pre) (l .bodies) (l .heads) (l .at) (l .number) (l .count) (l .inv .4) (source at-loop) (c .before .before .before .before .before .if1 .taken))
 
 loop-less : tie.Need-loop-less Inv-loop μ-loop
 loop-less c = omega (arith, beyond c .large, beyond c .fits)

@@ -9,8 +9,8 @@ use lib.ListN.{length, drop}
 use borrow.Author.Needs.{needs}
 use denote.Ref.{now}
 use borrow.Rule.Slice.PartAt.{part-to-end}
-use Rattle.literal.specs.Order.{keyAt}
-use Rattle.clauses.specs.Position.{keyMask, keysAt, union}
+use Rattle.literal.specs.Code.{keyAt}
+use Rattle.clauses.specs.Code.{keyMask, keysAt, union}
 use Rattle.clauses.proofs.Laws.Union.{union-start, positions-next, positions-end}
 use Rattle.clauses.proofs.masks.mask_heads.Statement.{statement}
 use Rattle.clauses.proofs.masks.mask_heads.Tie as tie

@@ -3,7 +3,7 @@
 use mathlib.Core.Path.{_∙_, ap}
 use borrow.Author.Needs.{needs}
 use denote.Ref.{now}
-use Rattle.clauses.specs.Position.{keyMask}
+use Rattle.clauses.specs.Code.{keyMask}
 use Rattle.clauses.proofs.masks.mask_literal.Statement.{statement}
 use Rattle.clauses.proofs.masks.mask_literal.Tie as tie
 

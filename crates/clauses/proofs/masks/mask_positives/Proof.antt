@@ -11,17 +11,17 @@ use lib.ListN.{length, drop}
 use borrow.Author.Needs.{needs}
 use denote.Ref.{now}
 use borrow.Rule.Slice.PartAt.{part-to-end}
-use Rattle.literal.specs.Order.{keyAt}
-use Rattle.semantics.specs.Set.{all}
-use Rattle.litset.specs.Keys.{hasKey}
-use Rattle.clauses.specs.Position.{keyMask, keysAt, union}
+use Rattle.literal.specs.Code.{keyAt}
+use Rattle.semantics.specs.Set.{eachOf}
+use Rattle.litset.specs.Code.{hasKey}
+use Rattle.clauses.specs.Code.{keyMask, keysAt, union}
 use Rattle.clauses.proofs.Laws.Position.{key-mask-empty, key-mask-filled}
 use Rattle.clauses.proofs.Laws.Union.{union-start, positions-next, positions-end, all-missing, all-next, all-end, positions-missing, positions-whole}
 use Rattle.clauses.proofs.masks.mask_positives.Statement.{statement}
 use Rattle.clauses.proofs.masks.mask_positives.Tie as tie
 
 abbrev Inv-loop : tie.InvT-loop
-Inv-loop set n count t from at₀ left₀ mask₀ at left mask = (at + 5 * left ≤ length t) × (union (keyMask set n) (keysAt t from count) ≡ bitOr mask (union (keyMask set n) (keysAt t at left))) × (all (hasKey set n) (keysAt t from count) ≡ all (hasKey set n) (keysAt t at left))
+Inv-loop set n count t from at₀ left₀ mask₀ at left mask = (at + 5 * left ≤ length t) × (union (keyMask set n) (keysAt t from count) ≡ bitOr mask (union (keyMask set n) (keysAt t at left))) × (eachOf (hasKey set n) (keysAt t from count) ≡ eachOf (hasKey set n) (keysAt t at left))
 
 abbrev μ-loop : tie.MeasureT-loop
 μ-loop set n count t from at₀ left₀ mask₀ at left mask = left

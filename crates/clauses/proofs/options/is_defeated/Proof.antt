@@ -3,7 +3,7 @@
 use mathlib.Core.Path.{_∙_, ap}
 use borrow.Author.Needs.{needs}
 use denote.Ref.{now}
-use Rattle.litset.specs.Keys.{hasKey}
+use Rattle.litset.specs.Code.{hasKey}
 use Rattle.clauses.proofs.options.is_defeated.Statement.{statement}
 use Rattle.clauses.proofs.options.is_defeated.Tie as tie
 

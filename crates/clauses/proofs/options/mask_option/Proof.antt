@@ -5,7 +5,7 @@ use borrow.Author.Needs.{needs}
 use denote.Ref.{now}
 use Rattle.literal.specs.declared.SignedAtom.{SignedAtom}
 use Rattle.literal.specs.declared.Literal.the-variants.{Signed}
-use Rattle.clauses.specs.Rule.{literalMask}
+use Rattle.clauses.specs.Code.{literalMask}
 use Rattle.clauses.proofs.Laws.Left.{mask-defeated, mask-kept}
 use Rattle.clauses.proofs.options.mask_option.Statement.{statement}
 use Rattle.clauses.proofs.options.mask_option.Tie as tie

@@ -9,10 +9,9 @@ use lib.Bits.{bitOr}
 use lib.ListN.{length}
 use borrow.Author.Needs.{needs}
 use denote.Ref.{now}
-use Rattle.clauses.specs.Position.{union}
-use Rattle.remains.specs.Left.{leftAt}
+use Rattle.clauses.specs.Code.{union, literalMask}
+use Rattle.remains.specs.Code.{leftAt}
 use Rattle.remains.proofs.Laws.Left.{left-none}
-use Rattle.clauses.specs.Rule.{literalMask}
 use Rattle.clauses.proofs.Laws.Union.{union-start, union-end}
 use Rattle.clauses.proofs.Laws.Left.{count-first, mask-first, count-one, left-gathered}
 use Rattle.clauses.proofs.options.mask_options.Statement.{statement}

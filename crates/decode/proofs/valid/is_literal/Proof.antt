@@ -1,35 +1,27 @@
--- `valid::is_literal` meets its contract: bytes spell a literal exactly where their fields are right.
+-- `valid::is_literal` meets its contract: bytes spell a literal exactly where the last two fields may stand behind the kind.
 -- Assumes nothing.
+use mathlib.Core.Path.{sym, _∙_}
 use borrow.Author.Needs.{needs}
 use denote.Ref.{now}
-use Rattle.literal.proofs.Laws.Fields.{valid-fields}
+use Rattle.literal.proofs.Laws.Fields.{valid-behind}
 use Rattle.decode.proofs.valid.is_literal.Statement.{statement}
 use Rattle.decode.proofs.valid.is_literal.Tie as tie
 
-get-number-requires : tie.Need-get-number-requires
-get-number-requires c κs = search needs
+fields-at-requires : tie.Need-fields-at-requires
+fields-at-requires c κs = search needs
 
-get-number-requires-2 : tie.Need-get-number-requires-2
-get-number-requires-2 c κs = search needs
+decode-kind-requires : tie.Need-decode-kind-requires
+decode-kind-requires c κs = search needs
 
-shared-slice-read-are-fields-right : tie.Need-shared-slice-read-are-fields-right
-shared-slice-read-are-fields-right c = search needs
-
-are-fields-right-requires : tie.Need-are-fields-right-requires
-are-fields-right-requires c κs = search needs
+are-in-ranges-requires : tie.Need-are-in-ranges-requires
+are-in-ranges-requires c κs = search needs
 
 returns : tie.Need-returns
 returns c =
-    let a = c .before .before .before .before .before .args in
-    rw (valid-fields (a .lim) (now (a .s)), ← c .before .before .before .get-number .ensures, ← c .before .before .get-number2 .ensures)
-    (c .are-fields-right .ensures)
+    let at-kind = c .before .before in
+    let a = at-kind .before .before .before .args in
+    c .are-in-ranges .ensures ∙ sym (valid-behind (a .lim) (now (a .s)) _ _ (at-kind .before .fields-at .ensures) (at-kind .decode-kind .ensures))
 
 pub is-literal-spec : {M : Type 1} → statement M
 is-literal-spec =
-    tie.close
-    (tie.spec
-    get-number-requires
-    get-number-requires-2
-    shared-slice-read-are-fields-right
-    are-fields-right-requires
-    returns)
+    tie.close (tie.spec fields-at-requires decode-kind-requires are-in-ranges-requires returns)

@@ -5,27 +5,27 @@ use lib.ListN.{getD}
 use borrow.Author.Needs.{needs}
 use denote.Ref.{now}
 use Rattle.literal.specs.Literal.{signedAtom}
-use Rattle.emit.specs.Options.{optionAt}
+use Rattle.emit.specs.Code.{optionAt}
 use Rattle.emit.proofs.options.option_at.Statement.{statement}
 use Rattle.emit.proofs.options.option_at.Tie as tie
 
 shared-slice-read-sign : tie.Need-shared-slice-read-sign
 shared-slice-read-sign c = search needs
 
-add-get-number : tie.Need-add-get-number
-add-get-number c = search needs
+add-get-atom : tie.Need-add-get-atom
+add-get-atom c = search needs
 
-get-number-requires : tie.Need-get-number-requires
-get-number-requires c κs = search needs
+get-atom-requires : tie.Need-get-atom-requires
+get-atom-requires c κs = search needs
 
 sign-requires : tie.Need-sign-requires
 sign-requires c κs = search needs
 
 returns : tie.Need-returns
 unfolding optionAt
-returns c = let a = c .before .before .before .before .args in c .sign .ensures ∙ ap (signedAtom (getD (now (a .s)) (a .at) 0)) (c .before .get-number .ensures)
+returns c = let a = c .before .before .before .before .args in c .sign .ensures ∙ ap (signedAtom (getD (now (a .s)) (a .at) 0)) (c .before .get-atom .ensures)
 
 pub option-at-spec : {M : Type 1} → statement M
 option-at-spec =
     tie.close
-    (tie.spec shared-slice-read-sign add-get-number get-number-requires sign-requires returns)
+    (tie.spec shared-slice-read-sign add-get-atom get-atom-requires sign-requires returns)

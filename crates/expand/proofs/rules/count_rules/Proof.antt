@@ -5,7 +5,7 @@ use lib.ListN.{getD}
 use borrow.Author.Tests.{eq-eqb, ne-eqb}
 use borrow.Author.Needs.{needs}
 use denote.Ref.{now}
-use Rattle.expand.specs.Writing.{countAt}
+use Rattle.expand.specs.Code.{countAt}
 use Rattle.expand.proofs.rules.count_rules.Statement.{statement}
 use Rattle.expand.proofs.rules.count_rules.Tie as tie
 

@@ -5,7 +5,7 @@ use lib.ListN.{getD}
 use borrow.Author.Tests.{eq-eqb, ne-eqb}
 use borrow.Author.Needs.{needs}
 use denote.Ref.{now}
-use Rattle.expand.specs.Writing.{lengthAt}
+use Rattle.expand.specs.Code.{lengthAt}
 use Rattle.expand.proofs.rules.measure_rule.Statement.{statement}
 use Rattle.expand.proofs.rules.measure_rule.Tie as tie
 

@@ -13,8 +13,7 @@ use Rattle.buffer.proofs.Laws.Next.{write-behind}
 use Rattle.literal.specs.Literal.{encoded}
 use Rattle.literal.proofs.Laws.Literal.{length-encoded}
 use Rattle.semantics.specs.Translation.{ruleDefeated}
-use Rattle.emit.specs.Header.{header}
-use Rattle.emit.specs.Options.{tagAt, optionsAt}
+use Rattle.emit.specs.Code.{header, tagAt, optionsAt}
 use Rattle.emit.proofs.Laws.Options.{length-options-at}
 use Rattle.emit.proofs.Laws.Stores.{length-header}
 use Rattle.option_rules.proofs.Laws.Marks.{marks}

@@ -12,8 +12,7 @@ use Rattle.buffer.specs.Write.{write}
 use Rattle.buffer.proofs.Laws.Next.{write-behind}
 use Rattle.literal.specs.Literal.{encoded}
 use Rattle.semantics.specs.Translation.{ruleDefeated}
-use Rattle.emit.specs.Header.{header}
-use Rattle.emit.specs.Options.{tagAt}
+use Rattle.emit.specs.Code.{header, tagAt}
 use Rattle.emit.proofs.Laws.Stores.{length-header}
 use Rattle.option_rules.proofs.Laws.Marks.{length-marks, marks}
 use Rattle.expand.proofs.Laws.Rule.{choice-written}

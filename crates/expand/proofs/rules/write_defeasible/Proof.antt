@@ -11,7 +11,7 @@ use Rattle.buffer.specs.Write.{write}
 use Rattle.buffer.proofs.Laws.Next.{write-behind}
 use Rattle.semantics.specs.Translation.{choice, allDefeated, options}
 use Rattle.record.specs.Layout.{encodedRule, encodedRules}
-use Rattle.emit.specs.Options.{tagAt, optionsAt}
+use Rattle.emit.specs.Code.{tagAt, optionsAt}
 use Rattle.emit.proofs.Laws.Options.{length-options-at}
 use Rattle.expand.proofs.Laws.Rule.{defeasible-written, length-choice, length-all-defeated}
 use Rattle.expand.proofs.rules.write_defeasible.Statement.{statement}

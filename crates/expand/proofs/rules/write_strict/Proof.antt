@@ -8,7 +8,7 @@ use borrow.Author.Needs.{needs}
 use denote.Ref.{now}
 use Rattle.buffer.specs.Write.{write}
 use Rattle.buffer.proofs.Laws.Next.{write-behind}
-use Rattle.emit.specs.Header.{header}
+use Rattle.emit.specs.Code.{header}
 use Rattle.emit.proofs.Laws.Stores.{length-header}
 use Rattle.emit.proofs.Laws.Fields.{strict-written}
 use Rattle.expand.proofs.rules.write_strict.Statement.{statement}

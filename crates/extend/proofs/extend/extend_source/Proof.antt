@@ -4,7 +4,7 @@ use mathlib.Core.Path.{sym, subst}
 use borrow.Author.Needs.{needs}
 use denote.Ref.{now}
 use Rattle.literal.specs.Limits.{source}
-use Rattle.extend.specs.Extending.{Extendable}
+use Rattle.extend.specs.Code.{Extendable}
 use Rattle.extend.proofs.Laws.Outcome.{meets-same, extendable-source}
 use Rattle.extend.proofs.extend.extend_source.Statement.{statement}
 use Rattle.extend.proofs.extend.extend_source.Tie as tie

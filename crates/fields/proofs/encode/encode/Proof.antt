@@ -2,12 +2,13 @@
 -- Assumes nothing.
 use native.Mathlib.Omega.{arith}
 use borrow.Author.Needs.{needs}
+use denote.Ref.{now}
 use Rattle.literal.proofs.Laws.Literal.{write-fields}
 use Rattle.fields.proofs.encode.encode.Statement.{statement}
 use Rattle.fields.proofs.encode.encode.Tie as tie
 
-kind-of-requires : tie.Need-kind-of-requires
-kind-of-requires c κs = search needs
+fields-of-requires : tie.Need-fields-of-requires
+fields-of-requires c κs = search needs
 
 put-byte-requires : tie.Need-put-byte-requires
 put-byte-requires c κs = search needs
@@ -15,17 +16,11 @@ put-byte-requires c κs = search needs
 add-put-number : tie.Need-add-put-number
 add-put-number c = search needs
 
-tag-of-requires : tie.Need-tag-of-requires
-tag-of-requires c κs = search needs
-
 put-number-requires : tie.Need-put-number-requires
 put-number-requires c κs = search needs
 
 add-put-number-2 : tie.Need-add-put-number-2
 add-put-number-2 c = search needs
-
-atom-of-requires : tie.Need-atom-of-requires
-atom-of-requires c κs = search needs
 
 put-number-requires-2 : tie.Need-put-number-requires-2
 put-number-requires-2 c κs = search needs
@@ -35,31 +30,23 @@ same-length c = search needs
 
 returns : tie.Need-returns
 returns c =
-    let at-atom = c .before .before .before in
-    let at-tag = at-atom .before .before .before .before .before in
-    let at-kind = at-tag .before .before .before .before .before in
-    let start = at-kind .before .before .before in
-    rw (
-      c .before .before .put-number2 .ensures,
-      at-atom .before .before .before .before .put-number .ensures,
-      at-tag .before .before .before .before .put-byte .ensures,
-      at-atom .atom-of .ensures,
-      at-tag .tag-of .ensures,
-      at-kind .kind-of .ensures,
-    )
-    (write-fields (start .args .out .now) (start .args .at) (start .args .l) (omega arith))
+    let at-number = c .before .before in
+    let at-tag = at-number .before .before .before .before in
+    let at-kind = at-tag .before .before .before .before in
+    let at-fields = at-kind .before .before in
+    let a = at-fields .before .before .args in
+    rw (at-number .put-number2 .ensures, at-tag .put-number .ensures, at-kind .put-byte .ensures, at-fields .fields-of .ensures)
+    (write-fields (now (a .out)) (a .at) (a .l) (omega arith))
 
 pub encode-spec : {M : Type 1} → statement M
 encode-spec =
     tie.close
     (tie.spec
-    kind-of-requires
+    fields-of-requires
     put-byte-requires
     add-put-number
-    tag-of-requires
     put-number-requires
     add-put-number-2
-    atom-of-requires
     put-number-requires-2
     same-length
     returns)

@@ -1,18 +1,15 @@
--- `order::key_at` meets its contract: the key of the three fields.
+-- `order::key_at` meets its contract: a key is three fields as one number.
 -- Assumes nothing.
+use mathlib.Core.Path.{_∙_, ap}
 use borrow.Author.Needs.{needs}
-use Rattle.literal.specs.Order.{keyAt}
+use Rattle.literal.specs.declared.Fields.{Fields}
+use Rattle.literal.specs.Code.{keyAt}
+use Rattle.literal.specs.Order.{keyOf}
 use Rattle.fields.proofs.order.key_at.Statement.{statement}
 use Rattle.fields.proofs.order.key_at.Tie as tie
 
-shared-slice-read-make-key : tie.Need-shared-slice-read-make-key
-shared-slice-read-make-key c = search needs
-
-get-number-requires : tie.Need-get-number-requires
-get-number-requires c κs = search needs
-
-get-number-requires-2 : tie.Need-get-number-requires-2
-get-number-requires-2 c κs = search needs
+fields-at-requires : tie.Need-fields-at-requires
+fields-at-requires c κs = search needs
 
 make-key-requires : tie.Need-make-key-requires
 make-key-requires c κs = search needs
@@ -20,14 +17,7 @@ make-key-requires c κs = search needs
 returns : tie.Need-returns
 unfolding keyAt
 returns c =
-    rw (← c .before .before .get-number .ensures, ← c .before .get-number2 .ensures) (c .make-key .ensures)
+    c .make-key .ensures ∙ ap (λ (f : Fields). keyOf (f .kind) (f .tag .0) (f .number)) (c .before .fields-at .ensures)
 
 pub key-at-spec : {M : Type 1} → statement M
-key-at-spec =
-    tie.close
-    (tie.spec
-    shared-slice-read-make-key
-    get-number-requires
-    get-number-requires-2
-    make-key-requires
-    returns)
+key-at-spec = tie.close (tie.spec fields-at-requires make-key-requires returns)

@@ -5,8 +5,8 @@ use mathlib.Core.Path.{subst}
 use borrow.Author.Needs.{needs}
 use borrow.Author.Tests.{not-true, not-false}
 use denote.Ref.{now}
-use Rattle.narrow.specs.Clause.{Smaller}
-use Rattle.search.specs.Search.{First}
+use Rattle.narrow.specs.Code.{Smaller}
+use Rattle.search.specs.Code.{First}
 use Rattle.judge.proofs.Laws.Decide.{decided-yes, decided-smaller}
 use Rattle.judge.proofs.decide.decide.Statement.{statement}
 use Rattle.judge.proofs.decide.decide.Tie as tie

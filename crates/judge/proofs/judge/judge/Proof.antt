@@ -29,7 +29,7 @@ same-length-2 c = search needs
 
 returns-2 : tie.Need-returns-2
 returns-2 c =
-    let at-build = c .before .before .before .before .before in
+    let at-build = c .before .before .before .before .before .before .before in
     let at-test = at-build .before .before .before in
     let at-clash = at-test .before in
     let start = at-clash .before .before .before .before .before .before in
@@ -38,7 +38,7 @@ returns-2 c =
 decide-requires : tie.Need-decide-requires
 decide-requires c κs =
     let at-broken = c .before .before .before in
-    let at-build = at-broken .before .before .before .before .before in
+    let at-build = at-broken .before .before .before .before .before .before .before in
     let start = at-build .before .before .before .before .before .before .before .before .before .before in
     let few = judge-few (start .pre) (at-build .build .ensures) (omega (arith, at-broken .if2 .left)) in
     ((omega (arith, judge-long (start .pre)), omega (arith, judge-long (start .pre), start .pre .room), start .pre .buildable .few), (omega (arith, few .0), omega (arith, few .1)))
@@ -56,7 +56,7 @@ returns-3 : tie.Need-returns-3
 returns-3 c =
     let at-decide = c .before .before in
     let at-broken = at-decide .before .before .before .before in
-    let at-build = at-broken .before .before .before .before .before in
+    let at-build = at-broken .before .before .before .before .before .before .before in
     let at-test = at-build .before .before .before in
     let at-clash = at-test .before in
     let start = at-clash .before .before .before .before .before .before in

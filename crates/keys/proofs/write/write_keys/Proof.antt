@@ -10,7 +10,7 @@ use denote.Ref.{now}
 use Rattle.buffer.specs.Write.{write}
 use Rattle.buffer.proofs.Laws.Write.{write-nil}
 use Rattle.buffer.proofs.Laws.Next.{write-left}
-use Rattle.keys.specs.Bytes.{bytesOf, keyBytes}
+use Rattle.keys.specs.Code.{bytesOf, keyBytes}
 use Rattle.keys.proofs.Laws.Bytes.{length-bytesOf, keys-first, keys-none, fitting-at}
 use Rattle.keys.proofs.write.write_keys.Statement.{statement}
 use Rattle.keys.proofs.write.write_keys.Tie as tie

@@ -8,8 +8,8 @@ use lib.ListN.{length, drop}
 use borrow.Author.Needs.{needs}
 use denote.Ref.{now}
 use borrow.Rule.Slice.PartAt.{part-to-end}
-use Rattle.literal.specs.Order.{keyAt}
-use Rattle.litset.specs.Keys.{hasKey, anyKey}
+use Rattle.literal.specs.Code.{keyAt}
+use Rattle.litset.specs.Code.{hasKey, anyKey}
 use Rattle.litset.proofs.Laws.Member.{any-key-first, any-key-next, any-key-none}
 use Rattle.litset.proofs.member.is_any_member.Statement.{statement}
 use Rattle.litset.proofs.member.is_any_member.Tie as tie

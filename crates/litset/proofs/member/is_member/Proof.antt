@@ -3,7 +3,7 @@
 use mathlib.Core.Path.{_∙_, ap}
 use borrow.Author.Needs.{needs}
 use denote.Ref.{now}
-use Rattle.litset.specs.Keys.{hasKey}
+use Rattle.litset.specs.Code.{hasKey}
 use Rattle.litset.proofs.member.is_member.Statement.{statement}
 use Rattle.litset.proofs.member.is_member.Tie as tie
 

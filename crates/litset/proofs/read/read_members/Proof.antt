@@ -9,8 +9,8 @@ use borrow.Author.Tests.{not-true, not-false}
 use denote.Ref.{now}
 use lib.ListN.{length}
 use borrow.Rule.Slice.PartAt.{part-to-end}
-use Rattle.literal.specs.Literal.{decoded, isValid}
-use Rattle.literal.specs.Order.{keyAt}
+use Rattle.literal.specs.Literal.{decoded}
+use Rattle.literal.specs.Code.{isValid, keyAt}
 use Rattle.litset.specs.Code.{membersAbove}
 use Rattle.litset.proofs.Laws.Members.{above-right, above-wrong, above-low, above-nil}
 use Rattle.litset.proofs.read.read_members.Statement.{statement}

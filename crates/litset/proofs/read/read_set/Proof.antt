@@ -5,7 +5,7 @@ use mathlib.Core.Path.{sym, _∙_, ap}
 use borrow.Author.Needs.{needs}
 use borrow.Author.Tests.{not-true, not-false}
 use denote.Ref.{now}
-use Rattle.litset.specs.declared.SetReading.the-variants.{Literals}
+use Rattle.record.specs.declared.Reading.{Reading}
 use Rattle.litset.specs.Code.{membersAbove}
 use Rattle.litset.proofs.Laws.Shape.{shaped}
 use Rattle.litset.proofs.Laws.Answer.{answer-wrong, answer-large, answer-member, answer-right}
@@ -67,7 +67,7 @@ returns-3 c =
     let shape = sym (at-test .before .is-shaped .ensures) ∙ not-false _ (at-test .if1 .left) in
     let count = at-count .get-number .ensures in
     let run = ap (λ n. membersAbove (a .lim) (now (a .s)) 4 0 n) (sym count) ∙ sym (c .before .before .read-members .ensures) ∙ c .enum-told .given .1 in
-    ap Literals count
+    ap Reading.Count count
     ∙ sym (answer-right (a .lim) (a .most) (now (a .s)) shape (omega (arith, count, at-room .if2 .left)) (λ i. at-test .before .before .shared-slice-known .given i .fits) run)
 
 returns-4 : tie.Need-returns-4

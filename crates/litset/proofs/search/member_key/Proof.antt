@@ -5,7 +5,7 @@ use borrow.Author.Needs.{needs}
 use denote.Ref.{now}
 use Prim.Native.Nat.{_+_, _*_}
 use borrow.Rule.Slice.PartAt.{part-to-end}
-use Rattle.literal.specs.Order.{keyAt}
+use Rattle.literal.specs.Code.{keyAt}
 use Rattle.litset.proofs.search.member_key.Statement.{statement}
 use Rattle.litset.proofs.search.member_key.Tie as tie
 

@@ -8,7 +8,7 @@ use mathlib.Core.Bool.{cond}
 use borrow.Author.Needs.{needs}
 use borrow.Author.Tests.{ne-eqb}
 use denote.Ref.{now}
-use Rattle.litset.specs.Keys.{memberKey}
+use Rattle.litset.specs.Code.{memberKey}
 use lib.Dec.{leb}
 use Rattle.litset.proofs.Laws.Search.{Part, member-key-lt, has-key-none, part-whole, part-step, part-one, place-found, place-none}
 use Rattle.litset.proofs.Laws.Weight.{weight-le}

@@ -2,7 +2,7 @@
 -- Assumes nothing.
 use borrow.Author.Needs.{needs}
 use denote.Ref.{now}
-use Rattle.litset.specs.Keys.{keySet}
+use Rattle.litset.specs.Code.{keySet}
 use Rattle.marks.proofs.Laws.Marks.{gained-option}
 use Rattle.marks.proofs.marks.add_derived.Statement.{statement}
 use Rattle.marks.proofs.marks.add_derived.Tie as tie

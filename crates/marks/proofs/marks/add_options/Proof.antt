@@ -11,10 +11,10 @@ use denote.Ref.{now}
 use Rattle.literal.specs.declared.Tag.{Tag}
 use Rattle.literal.specs.declared.SignedAtom.{SignedAtom}
 use Rattle.literal.specs.Order.{key}
-use Rattle.litset.specs.Keys.{keySet}
-use Rattle.emit.specs.Options.{optionsAt}
+use Rattle.litset.specs.Code.{keySet}
+use Rattle.emit.specs.Code.{optionsAt}
 use Rattle.marks.specs.Marks.{derivedMarks}
-use Rattle.marks.specs.Collect.{Gained}
+use Rattle.marks.specs.Code.{Gained}
 use Rattle.marks.proofs.Laws.Gained.{Gaining, gaining-start, gaining-next, gaining-end}
 use Rattle.marks.proofs.Laws.Marks.{marks-first, marks-none, gained-few}
 use Rattle.marks.proofs.marks.add_options.Statement.{statement}

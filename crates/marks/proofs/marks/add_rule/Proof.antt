@@ -3,7 +3,7 @@
 use mathlib.Core.Path.{sym, _∙_}
 use borrow.Author.Needs.{needs}
 use denote.Ref.{now}
-use Rattle.litset.specs.Keys.{keySet}
+use Rattle.litset.specs.Code.{keySet}
 use Rattle.marks.proofs.Laws.Rule.{gained-strict, gained-defeated, gained-open}
 use Rattle.marks.proofs.marks.add_rule.Statement.{statement}
 use Rattle.marks.proofs.marks.add_rule.Tie as tie

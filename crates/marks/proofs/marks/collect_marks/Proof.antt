@@ -10,9 +10,9 @@ use borrow.Author.Needs.{needs}
 use denote.Ref.{now}
 use borrow.Rule.Slice.PartAt.{part-to-end}
 use Rattle.literal.specs.Order.{key}
-use Rattle.record.specs.Size.{recordSize}
-use Rattle.emit.specs.Starts.{Starts}
-use Rattle.litset.specs.Keys.{keySet}
+use Rattle.record.specs.Code.{recordSize}
+use Rattle.emit.specs.Code.{Starts}
+use Rattle.litset.specs.Code.{keySet}
 use Rattle.marks.specs.Marks.{marksFrom}
 use Rattle.marks.proofs.Laws.Collect.{Next, Pass, pass-start, pass-next, left-open, left-next, left-end}
 use Rattle.marks.proofs.marks.collect_marks.Statement.{statement}

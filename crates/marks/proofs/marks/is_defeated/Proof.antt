@@ -11,23 +11,23 @@ use denote.Ref.{now}
 use Rattle.literal.specs.declared.Tag.{Tag}
 use Rattle.literal.specs.declared.SignedAtom.{SignedAtom}
 use Rattle.literal.specs.declared.Literal.the-variants.{Defeated}
-use Rattle.semantics.specs.Set.{all}
-use Rattle.litset.specs.Keys.{keySet}
-use Rattle.emit.specs.Options.{tagAt, optionAt, optionsAt}
+use Rattle.semantics.specs.Set.{eachOf}
+use Rattle.litset.specs.Code.{keySet}
+use Rattle.emit.specs.Code.{tagAt, optionAt, optionsAt}
 use Rattle.marks.proofs.Laws.Marks.{defeated-next, defeated-not, defeated-none}
 use Rattle.marks.proofs.marks.is_defeated.Statement.{statement}
 use Rattle.marks.proofs.marks.is_defeated.Tie as tie
 
 abbrev Inv-loop : tie.InvT-loop
-Inv-loop set count part t at₀ left₀ at left = (at + 5 * left ≤ length part) × (all (λ a. keySet set count (Defeated t a)) (optionsAt part 7 (getD part 4 0)) ≡ all (λ a. keySet set count (Defeated t a)) (optionsAt part at left))
+Inv-loop set count part t at₀ left₀ at left = (at + 5 * left ≤ length part) × (eachOf (λ a. keySet set count (Defeated t a)) (optionsAt part 7 (getD part 4 0)) ≡ eachOf (λ a. keySet set count (Defeated t a)) (optionsAt part at left))
 
 abbrev μ-loop : tie.MeasureT-loop
 μ-loop set count part t at₀ left₀ at left = left
 
 -- the tag at hand is the record's
 by-tag : (s : List ℕ) (n : ℕ) (x : List ℕ) {t : Tag} → t ≡ tagAt x
-    → all (λ a. keySet s n (Defeated (tagAt x) a)) (optionsAt x 7 (getD x 4 0)) ≡ all (λ a. keySet s n (Defeated t a)) (optionsAt x 7 (getD x 4 0))
-by-tag s n x e = ap (λ (u : Tag). all (λ a. keySet s n (Defeated u a)) (optionsAt x 7 (getD x 4 0))) (sym e)
+    → eachOf (λ a. keySet s n (Defeated (tagAt x) a)) (optionsAt x 7 (getD x 4 0)) ≡ eachOf (λ a. keySet s n (Defeated t a)) (optionsAt x 7 (getD x 4 0))
+by-tag s n x e = ap (λ (u : Tag). eachOf (λ a. keySet s n (Defeated u a)) (optionsAt x 7 (getD x 4 0))) (sym e)
 
 tag-at-requires : tie.Need-tag-at-requires Inv-loop μ-loop
 tag-at-requires c κs = search needs

@@ -4,7 +4,7 @@ use mathlib.Core.Path.{sym, _∙_}
 use borrow.Author.Needs.{needs}
 use denote.Ref.{now}
 use Rattle.literal.specs.declared.Literal.the-variants.{Defeated}
-use Rattle.litset.specs.Keys.{keySet}
+use Rattle.litset.specs.Code.{keySet}
 use Rattle.marks.proofs.Laws.Marks.{both-tests, first-test}
 use Rattle.marks.proofs.marks.is_derived.Statement.{statement}
 use Rattle.marks.proofs.marks.is_derived.Tie as tie

@@ -13,8 +13,8 @@ use Rattle.record.specs.Refusal.{shifted}
 use Rattle.record.specs.Reading.{recordAt}
 use Rattle.record.specs.Code.{stepOf}
 use Rattle.record.proofs.Laws.Places.{step-place}
-use Rattle.measure.specs.Measure.{measured}
-use Rattle.expand.specs.Writing.{lengthAt}
+use Rattle.measure.specs.Code.{measured}
+use Rattle.expand.specs.Code.{lengthAt}
 use Rattle.measure.proofs.Laws.Measure.{StepRule, step-starts, left, measured-long, measured-left, left-rule, left-end, left-refused}
 use Rattle.measure.proofs.measure.measure_source.Statement.{statement}
 use Rattle.measure.proofs.measure.measure_source.Tie as tie

@@ -24,7 +24,7 @@ returns-3 c =
     let at-test = c .before .before in
     let a = at-test .before .before .args in
     let one = one-open (a .body) (a .head) (a .must) (a .may) (at-test .before .without-lowest .ensures) (at-test .if1 .left) in
-    last-head (a .body) (a .head) (a .must) (a .may) (c .before .if2 .left) (one .1) (c .if3 .taken)
+    last-head (a .body) (a .head) (a .must) (a .may) (c .before .if2 .left) (one .0) (one .1) (c .if3 .taken)
 
 returns-4 : tie.Need-returns-4
 returns-4 c =
@@ -36,7 +36,7 @@ returns-4 c =
 returns-5 : tie.Need-returns-5
 returns-5 c =
     let a = c .before .before .before .before .before .args in
-    same-open (a .body) (a .head) (a .must) (a .may) (c .before .before .if2 .left)
+    same-open (a .body) (a .head) (a .must) (a .may) (c .before .before .if2 .left) (c .before .if3 .left) (c .if4 .left)
 
 pub force-spec : {M : Type 1} → statement M
 force-spec = tie.close (tie.spec without-lowest-requires returns returns-2 returns-3 returns-4 returns-5)

@@ -4,14 +4,12 @@ use Prim.Native.Nat.{_≤_, _-_}
 use borrow.Author.Needs.{needs}
 use borrow.Author.Tests.{not-true, not-false}
 use denote.Ref.{now}
-use Rattle.narrow.specs.Clause.{Model}
-use Rattle.narrow.specs.Narrow.{Narrowed}
-use Rattle.narrow.proofs.Laws.Pass.{pass-start, pass-step, pass-dead, pass-end}
+use Rattle.narrow.proofs.Laws.Pass.{Swept, pass-start, pass-step, pass-dead, pass-end}
 use Rattle.narrow.proofs.narrow.pass.Statement.{statement}
 use Rattle.narrow.proofs.narrow.pass.Tie as tie
 
 abbrev Inv-loop : tie.InvT-loop
-Inv-loop bodies heads count whole must may now₀ i₀ now i = (i ≤ count) × Narrowed (Model whole bodies heads i) must may now
+Inv-loop bodies heads count whole must may now₀ i₀ now i = (i ≤ count) × Swept whole bodies heads i must may now
 
 abbrev μ-loop : tie.MeasureT-loop
 μ-loop bodies heads count whole must may now₀ i₀ now i = count - i

@@ -3,8 +3,7 @@
 use borrow.Author.Needs.{needs}
 use borrow.Author.Tests.{not-true}
 use denote.Ref.{now}
-use Rattle.narrow.specs.Clause.{Model}
-use Rattle.narrow.specs.Narrow.{Kept}
+use Rattle.narrow.specs.Code.{Model, Kept}
 use Rattle.narrow.proofs.Laws.Narrow.{kept-same, open-count, less-open-must, less-open-may, swept, propagated-dead, propagated-same}
 use Rattle.narrow.proofs.narrow.propagate.Statement.{statement}
 use Rattle.narrow.proofs.narrow.propagate.Tie as tie
@@ -30,7 +29,7 @@ returns-2 : tie.Need-returns-2 Inv-loop μ-loop
 returns-2 c =
     let at-must = c .before .before .before in
     let at-pass = at-must .before .before .before .before .before in
-    propagated-same (at-pass .before .loop .inv) (at-pass .pass .ensures) (at-must .if2 .taken) (c .if3 .taken)
+    propagated-same (at-pass .before .loop .inv) (at-pass .pass .ensures) (at-pass .before .before .before .before .pre .2) (at-must .if2 .taken) (c .if3 .taken)
 
 loop-less : tie.Need-loop-less Inv-loop μ-loop
 loop-less c =
@@ -41,7 +40,7 @@ loop-less c =
 loop-again : tie.Need-loop-again Inv-loop μ-loop
 loop-again c =
     let at-pass = c .before .before .before .before .before .before .before .before in
-    swept (at-pass .before .loop .inv) (at-pass .pass .ensures)
+    swept (at-pass .before .loop .inv) (at-pass .pass .ensures .kept)
 
 loop-less-2 : tie.Need-loop-less-2 Inv-loop μ-loop
 loop-less-2 c =
@@ -52,7 +51,7 @@ loop-less-2 c =
 loop-again-2 : tie.Need-loop-again-2 Inv-loop μ-loop
 loop-again-2 c =
     let at-pass = c .before .before .before .before .before in
-    swept (at-pass .before .loop .inv) (at-pass .pass .ensures)
+    swept (at-pass .before .loop .inv) (at-pass .pass .ensures .kept)
 
 pub propagate-spec : {M : Type 1} → statement M
 propagate-spec =

@@ -1,6 +1,6 @@
 -- `marks::mark_option` meets its contract, by cases on the kind of mark.
 -- Assumes nothing.
-use Rattle.option_rules.specs.Marks.{markOf}
+use Rattle.option_rules.specs.Code.{markOf}
 use Rattle.option_rules.proofs.marks.mark_option.Statement.{statement}
 use Rattle.option_rules.proofs.marks.mark_option.Tie as tie
 

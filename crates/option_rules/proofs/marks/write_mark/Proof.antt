@@ -3,7 +3,7 @@
 use mathlib.Core.Path.{_∙_, ap, ap₂}
 use Rattle.buffer.specs.Write.{write}
 use Rattle.literal.specs.Literal.{encoded}
-use Rattle.option_rules.specs.Marks.{markOf}
+use Rattle.option_rules.specs.Code.{markOf}
 use borrow.Author.Needs.{needs}
 use Rattle.option_rules.proofs.marks.write_mark.Statement.{statement}
 use Rattle.option_rules.proofs.marks.write_mark.Tie as tie

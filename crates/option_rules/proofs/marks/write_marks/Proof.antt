@@ -12,8 +12,8 @@ use Rattle.buffer.proofs.Laws.Write.{write-nil}
 use Rattle.buffer.proofs.Laws.Next.{write-left}
 use Rattle.literal.specs.Literal.{encoded}
 use Rattle.literal.proofs.Laws.Literal.{length-encoded}
-use Rattle.emit.specs.Options.{tagAt, optionAt}
-use Rattle.option_rules.specs.Marks.{markOf}
+use Rattle.emit.specs.Code.{tagAt, optionAt}
+use Rattle.option_rules.specs.Code.{markOf}
 use Rattle.option_rules.proofs.Laws.Marks.{marks, marks-first, marks-none}
 use Rattle.option_rules.proofs.marks.write_marks.Statement.{statement}
 use Rattle.option_rules.proofs.marks.write_marks.Tie as tie

@@ -10,9 +10,8 @@ use Rattle.buffer.specs.Write.{write}
 use Rattle.buffer.proofs.Laws.Next.{write-behind}
 use Rattle.literal.specs.declared.Literal.the-variants.{Signed}
 use Rattle.literal.specs.Literal.{encoded}
-use Rattle.emit.specs.Header.{header}
-use Rattle.emit.specs.Options.{tagAt, optionAt}
-use Rattle.option_rules.specs.Marks.{markOf}
+use Rattle.emit.specs.Code.{header, tagAt, optionAt}
+use Rattle.option_rules.specs.Code.{markOf}
 use Rattle.option_rules.proofs.Laws.Options.{pair-written, length-pair, derived-pieces}
 use borrow.Author.Needs.{needs}
 use Rattle.option_rules.proofs.options.write_derived.Statement.{statement}

@@ -6,8 +6,8 @@ use mathlib.Core.Bool.{true}
 use denote.Ref.{now}
 use Rattle.buffer.specs.Write.{write}
 use Rattle.literal.specs.declared.Literal.the-variants.{Signed}
-use Rattle.emit.specs.Options.{tagAt, optionAt}
-use Rattle.option_rules.specs.Marks.{markOf}
+use Rattle.emit.specs.Code.{tagAt, optionAt}
+use Rattle.option_rules.specs.Code.{markOf}
 use Rattle.option_rules.proofs.Laws.Options.{pair-written, holds-pieces}
 use borrow.Author.Needs.{needs}
 use Rattle.option_rules.proofs.options.write_holds.Statement.{statement}

@@ -5,8 +5,8 @@ use mathlib.Core.Path.{_∙_, ap}
 use mathlib.Core.Bool.{true, false}
 use denote.Ref.{now}
 use Rattle.buffer.specs.Write.{write}
-use Rattle.emit.specs.Options.{tagAt, optionAt}
-use Rattle.option_rules.specs.Marks.{markOf}
+use Rattle.emit.specs.Code.{tagAt, optionAt}
+use Rattle.option_rules.specs.Code.{markOf}
 use Rattle.option_rules.proofs.Laws.Options.{pair-written, never-both-pieces}
 use borrow.Author.Needs.{needs}
 use Rattle.option_rules.proofs.options.write_never_both.Statement.{statement}

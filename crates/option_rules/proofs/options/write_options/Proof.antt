@@ -12,7 +12,7 @@ use Rattle.buffer.proofs.Laws.Write.{write-nil}
 use Rattle.buffer.proofs.Laws.Next.{write-left}
 use Rattle.semantics.specs.Translation.{option}
 use Rattle.record.specs.Layout.{encodedRules}
-use Rattle.emit.specs.Options.{tagAt, optionAt}
+use Rattle.emit.specs.Code.{tagAt, optionAt}
 use Rattle.option_rules.proofs.Laws.Options.{optionBytes, option-bytes-first, option-bytes-none, length-option}
 use Rattle.option_rules.proofs.options.write_options.Statement.{statement}
 use Rattle.option_rules.proofs.options.write_options.Tie as tie

@@ -11,7 +11,7 @@ use Rattle.buffer.specs.Write.{write}
 use Rattle.buffer.proofs.Laws.Next.{write-behind}
 use Rattle.semantics.specs.Translation.{holdsIfDerived, derivedIfHolds, neverBoth}
 use Rattle.record.specs.Layout.{encodedRule}
-use Rattle.emit.specs.Options.{tagAt, optionAt}
+use Rattle.emit.specs.Code.{tagAt, optionAt}
 use Rattle.option_rules.proofs.Laws.Options.{length-holds, length-derived, option-pieces}
 use Rattle.option_rules.proofs.options.write_three.Statement.{statement}
 use Rattle.option_rules.proofs.options.write_three.Tie as tie

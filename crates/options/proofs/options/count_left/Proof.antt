@@ -6,7 +6,7 @@ use native.Mathlib.Omega.{arith}
 use mathlib.Core.Path.{_≡_, ap}
 use lib.ListN.{length}
 use denote.Ref.{now}
-use Rattle.remains.specs.Left.{leftAt}
+use Rattle.remains.specs.Code.{leftAt}
 use Rattle.remains.proofs.Laws.Left.{left-count, left-none, left-few}
 use borrow.Author.Needs.{needs}
 use Rattle.options.proofs.options.count_left.Statement.{statement}

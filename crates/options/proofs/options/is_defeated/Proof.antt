@@ -5,7 +5,7 @@ use denote.Ref.{now}
 use Rattle.literal.specs.declared.Tag.{Tag}
 use Rattle.literal.specs.declared.SignedAtom.{SignedAtom}
 use Rattle.literal.specs.declared.Literal.the-variants.{Defeated}
-use Rattle.litset.specs.Keys.{keySet}
+use Rattle.litset.specs.Code.{keySet}
 use borrow.Author.Needs.{needs}
 use Rattle.options.proofs.options.is_defeated.Statement.{statement}
 use Rattle.options.proofs.options.is_defeated.Tie as tie

@@ -10,7 +10,7 @@ use Rattle.buffer.specs.Write.{write}
 use Rattle.buffer.proofs.Laws.Next.{write-left}
 use Rattle.record.specs.Layout.{encodedLiterals}
 use Rattle.record.proofs.Laws.Layout.{length-encoded-literals}
-use Rattle.remains.specs.Left.{leftAt}
+use Rattle.remains.specs.Code.{leftAt}
 use Rattle.remains.proofs.Laws.Left.{left-count, left-none, left-few}
 use Rattle.options.proofs.Laws.Options.{left-bytes, step-room, write-none}
 use borrow.Author.Needs.{needs}

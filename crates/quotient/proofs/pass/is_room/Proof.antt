@@ -6,8 +6,8 @@ use lib.Dec.{leb}
 use lib.ListN.{length}
 use denote.Ref.{now}
 use borrow.Author.Tests.{le-leb}
-use Rattle.litset.specs.Keys.{keySet}
-use Rattle.quotient.specs.Writing.{quotientOf}
+use Rattle.litset.specs.Code.{keySet}
+use Rattle.quotient.specs.Code.{quotientOf}
 use Rattle.quotient.proofs.Laws.Short.{quotient-of-short}
 use Rattle.quotient.proofs.pass.is_room.Statement.{statement}
 use Rattle.quotient.proofs.pass.is_room.Tie as tie

@@ -8,9 +8,9 @@ use mathlib.Core.List.{List}
 use lib.ListN.{length, getD, drop, length-drop}
 use denote.Ref.{now}
 use borrow.Rule.Slice.PartAt.{part-to-end}
-use Rattle.record.specs.Size.{recordSize}
+use Rattle.record.specs.Code.{recordSize}
 use Rattle.record.proofs.Laws.Size.{Passed, passed}
-use Rattle.remainder.specs.Remainder.{remainderAt}
+use Rattle.remainder.specs.Code.{remainderAt}
 use Rattle.quotient.proofs.Laws.Pass.{remainder-short, Measuring, measuring-start, measuring-open, measuring-more, measuring-next, measuring-end}
 use borrow.Author.Needs.{needs}
 use Rattle.quotient.proofs.pass.measure_quotient.Statement.{statement}

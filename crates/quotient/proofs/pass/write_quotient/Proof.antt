@@ -11,12 +11,12 @@ use borrow.Rule.Slice.PartAt.{part-to-end}
 use Rattle.buffer.specs.Write.{write}
 use Rattle.semantics.specs.Rule.{Program}
 use Rattle.record.specs.Layout.{encodedEnd, encodedProgram}
-use Rattle.record.specs.Size.{recordSize}
+use Rattle.record.specs.Code.{recordSize}
 use Rattle.record.proofs.Laws.Size.{Passed, passed}
-use Rattle.litset.specs.Keys.{keySet}
+use Rattle.litset.specs.Code.{keySet}
 use Rattle.emit.proofs.Laws.Stands.{stands-open}
-use Rattle.remainder.specs.Remainder.{remainderAt}
-use Rattle.quotient.specs.Writing.{quotientOf}
+use Rattle.remainder.specs.Code.{remainderAt}
+use Rattle.quotient.specs.Code.{quotientOf}
 use Rattle.quotient.proofs.Laws.Pass.{one-few, Writing, Next, writing-start, writing-more, writing-next, writing-end}
 use borrow.Author.Needs.{needs}
 use Rattle.quotient.proofs.pass.write_quotient.Statement.{statement}

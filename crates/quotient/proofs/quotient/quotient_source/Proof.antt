@@ -3,7 +3,7 @@
 use mathlib.Core.Path.{sym, subst}
 use denote.Ref.{now}
 use Rattle.literal.specs.Limits.{source}
-use Rattle.quotient.specs.Writing.{Sized}
+use Rattle.quotient.specs.Code.{Sized}
 use Rattle.quotient.proofs.Laws.Quotient.{met-same, sized-source}
 use borrow.Author.Needs.{needs}
 use Rattle.quotient.proofs.quotient.quotient_source.Statement.{statement}

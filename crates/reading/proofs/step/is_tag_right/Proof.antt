@@ -1,20 +1,20 @@
--- `read::is_tag_right` meets its contract: a case for each kind of rule.
+-- `step::is_tag_right` meets its contract: a case for each kind of rule.
 -- Assumes nothing.
 use borrow.Author.Needs.{needs}
 use Rattle.record.specs.Reading.{tagRight}
 use Rattle.reading.proofs.step.is_tag_right.Statement.{statement}
 use Rattle.reading.proofs.step.is_tag_right.Tie as tie
 
-is-in-range-requires : tie.Need-is-in-range-requires
-is-in-range-requires c κs = search needs
+is-tag-requires : tie.Need-is-tag-requires
+is-tag-requires c κs = search needs
 
 returns : tie.Need-returns
 unfolding tagRight
-returns c = rw (c .before .if1 .taken) (c .is-in-range .ensures)
+returns c = rw (c .before .if1 .taken) (c .is-tag .ensures)
 
 returns-2 : tie.Need-returns-2
 unfolding tagRight
-returns-2 c = rw (c .if1 .left)
+returns-2 c = rw (c .before .if1 .left)
 
 pub is-tag-right-spec : {M : Type 1} → statement M
-is-tag-right-spec = tie.close (tie.spec is-in-range-requires returns returns-2)
+is-tag-right-spec = tie.close (tie.spec is-tag-requires returns returns-2)

@@ -8,7 +8,8 @@ use borrow.Author.Tests.{not-true, not-false}
 use denote.Ref.{now}
 use lib.ListN.{length}
 use borrow.Rule.Slice.PartAt.{part-to-end}
-use Rattle.literal.specs.Literal.{decoded, isValid}
+use Rattle.literal.specs.Literal.{decoded}
+use Rattle.literal.specs.Code.{isValid}
 use Rattle.literal.proofs.Laws.Literal.{valid-some, valid-none}
 use Rattle.record.specs.Reading.{literalsAt}
 use Rattle.record.specs.Code.{runOf}

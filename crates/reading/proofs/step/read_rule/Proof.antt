@@ -26,8 +26,8 @@ returns-2 c =
     let a = c .before .before .before .before .before .args in
     c .refuse2 .ensures ∙ sym (rule-many (a .lim) (a .defeasible) (a .held) (now (a .t)) (c .before .before .before .if1 .left) (c .before .if2 .taken))
 
-get-number-requires : tie.Need-get-number-requires
-get-number-requires c κs = search needs
+get-tag-requires : tie.Need-get-tag-requires
+get-tag-requires c κs = search needs
 
 is-tag-right-requires : tie.Need-is-tag-right-requires
 is-tag-right-requires c κs = search needs
@@ -38,7 +38,7 @@ refuse-requires-3 c κs = search needs
 returns-3 : tie.Need-returns-3
 returns-3 c =
     let a = c .before .before .before .before .before .before .before .before .args in
-    let tag = ap (tagRight (a .lim) (a .defeasible)) (sym (c .before .before .before .get-number .ensures)) ∙ sym (c .before .before .is-tag-right .ensures) ∙ not-true _ (c .before .if3 .taken) in
+    let tag = ap (tagRight (a .lim) (a .defeasible)) (sym (c .before .before .before .get-tag .ensures)) ∙ sym (c .before .before .is-tag-right .ensures) ∙ not-true _ (c .before .if3 .taken) in
     c .refuse3 .ensures ∙ sym (rule-tag (a .lim) (a .defeasible) (a .held) (now (a .t)) (c .before .before .before .before .before .before .if1 .left) (c .before .before .before .before .if2 .left) tag)
 
 shared-slice-read-heads : tie.Need-shared-slice-read-heads
@@ -68,7 +68,7 @@ refuse-requires-4 c κs = search needs
 returns-4 : tie.Need-returns-4
 returns-4 c =
     let a = c .before .before .before .before .before .before .before .before .before .before .before .before .before .args in
-    let tag = ap (tagRight (a .lim) (a .defeasible)) (sym (c .before .before .before .before .before .before .before .before .get-number .ensures)) ∙ sym (c .before .before .before .before .before .before .before .is-tag-right .ensures) ∙ not-false _ (c .before .before .before .before .before .before .if3 .left) in
+    let tag = ap (tagRight (a .lim) (a .defeasible)) (sym (c .before .before .before .before .before .before .before .before .get-tag .ensures)) ∙ sym (c .before .before .before .before .before .before .before .is-tag-right .ensures) ∙ not-false _ (c .before .before .before .before .before .before .if3 .left) in
     let counts = sym (c .before .before .are-counts-kept .ensures) ∙ not-true _ (c .before .if4 .taken) in
     c .refuse4 .ensures ∙ sym (rule-counts (a .lim) (a .defeasible) (a .held) (now (a .t)) (c .before .before .before .before .before .before .before .before .before .before .before .if1 .left) (c .before .before .before .before .before .before .before .before .before .if2 .left) tag counts)
 
@@ -78,7 +78,7 @@ read-body-requires c κs = search needs
 returns-5 : tie.Need-returns-5
 returns-5 c =
     let a = c .before .before .before .before .before .before .before .before .before .before .before .before .before .args in
-    let tag = ap (tagRight (a .lim) (a .defeasible)) (sym (c .before .before .before .before .before .before .before .before .get-number .ensures)) ∙ sym (c .before .before .before .before .before .before .before .is-tag-right .ensures) ∙ not-false _ (c .before .before .before .before .before .before .if3 .left) in
+    let tag = ap (tagRight (a .lim) (a .defeasible)) (sym (c .before .before .before .before .before .before .before .before .get-tag .ensures)) ∙ sym (c .before .before .before .before .before .before .before .is-tag-right .ensures) ∙ not-false _ (c .before .before .before .before .before .before .if3 .left) in
     let counts = sym (c .before .before .are-counts-kept .ensures) ∙ not-false _ (c .before .if4 .left) in
     c .read-body .ensures ∙ sym (rule-body (a .lim) (a .defeasible) (a .held) (now (a .t)) (c .before .before .before .before .before .before .before .before .before .before .before .if1 .left) (c .before .before .before .before .before .before .before .before .before .if2 .left) tag counts)
 
@@ -90,7 +90,7 @@ read-rule-spec =
     returns
     refuse-requires-2
     returns-2
-    get-number-requires
+    get-tag-requires
     is-tag-right-requires
     refuse-requires-3
     returns-3

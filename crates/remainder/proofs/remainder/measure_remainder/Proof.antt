@@ -4,7 +4,7 @@ use native.Mathlib.Omega.{arith}
 use mathlib.Core.Path.{sym, _∙_, ap}
 use lib.ListN.{length, getD}
 use denote.Ref.{now}
-use Rattle.remains.specs.Left.{leftAt}
+use Rattle.remains.specs.Code.{leftAt}
 use Rattle.remains.proofs.Laws.Left.{left-few}
 use Rattle.remainder.proofs.Laws.Remainder.{remainder-removed, remainder-defeasible, remainder-strict, length-strict-bytes, length-option-bytes, option-bytes-none}
 use borrow.Author.Needs.{needs}

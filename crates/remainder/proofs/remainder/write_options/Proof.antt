@@ -13,11 +13,11 @@ use Rattle.buffer.proofs.Laws.Next.{write-behind}
 use Rattle.literal.specs.declared.Literal.{Literal}
 use Rattle.record.specs.Layout.{encodedLiterals}
 use Rattle.record.proofs.Laws.Layout.{length-encoded-literals}
-use Rattle.emit.specs.Header.{header}
+use Rattle.emit.specs.Code.{header}
 use Rattle.emit.proofs.Laws.Stores.{length-header}
-use Rattle.remains.specs.Left.{leftAt}
+use Rattle.remains.specs.Code.{leftAt}
 use Rattle.remains.proofs.Laws.Left.{left-few}
-use Rattle.remainder.specs.Remainder.{optionBytes}
+use Rattle.remainder.specs.Code.{optionBytes}
 use Rattle.options.proofs.Laws.Options.{write-empty}
 use Rattle.remainder.proofs.Laws.Remainder.{length-option-bytes, option-bytes-none, option-bytes-some, option-bytes-short}
 use borrow.Author.Needs.{needs}

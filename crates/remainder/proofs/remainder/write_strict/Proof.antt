@@ -5,9 +5,9 @@ use native.Mathlib.Omega.{arith}
 use lib.ListN.{getD, take, drop}
 use denote.Ref.{now}
 use Rattle.buffer.proofs.Laws.Next.{write-behind}
-use Rattle.emit.specs.Header.{header}
+use Rattle.emit.specs.Code.{header}
 use Rattle.emit.proofs.Laws.Stores.{length-header}
-use Rattle.remainder.specs.Remainder.{strictBytes}
+use Rattle.remainder.specs.Code.{strictBytes}
 use Rattle.remainder.proofs.Laws.Remainder.{length-strict-bytes}
 use borrow.Author.Needs.{needs}
 use Rattle.remainder.proofs.remainder.write_strict.Statement.{statement}

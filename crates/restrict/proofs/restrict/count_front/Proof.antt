@@ -6,7 +6,7 @@ use native.Mathlib.Omega.{arith}
 use mathlib.Core.Path.{_≡_, sym, _∙_}
 use borrow.Author.Needs.{needs}
 use denote.Ref.{now}
-use Rattle.restrict.specs.Restrict.{sourceFront}
+use Rattle.restrict.specs.Code.{sourceFront}
 use Rattle.restrict.proofs.Laws.Front.{front-start, front-next, front-mark, front-end}
 use Rattle.restrict.proofs.restrict.count_front.Statement.{statement}
 use Rattle.restrict.proofs.restrict.count_front.Tie as tie

@@ -10,38 +10,29 @@ use Rattle.restrict.proofs.restrict.restrict.Statement.{statement}
 use Rattle.restrict.proofs.restrict.restrict.Tie as tie
 
 -- what is kept, once it is counted
-held-now : (c : tie.After-count-front) → Held (c .before .before .before .before .before .before .before .args .lim) (now (c .before .before .before .before .before .before .before .args .k)) (c .before .before .a .given .0 .0) (c .count-front .result)
+held-now : (c : tie.After-count-front) → Held (c .before .before .before .before .before .before .before .args .lim) (now (c .before .before .before .before .before .before .before .args .k)) (c .before .before .read2 .given .0 .0) (c .count-front .result)
 held-now c =
-    let at-read = c .before .before .before .before in
+    let at-count = c .before .before in
+    let at-read = at-count .before .before in
     let known = at-read .before .before in
     let a = known .before .args in
-    read-held (a .lim) (now (a .k)) (λ i. known .shared-slice-known .given i .fits) _ _
-    (sym (at-read .read-set .ensures) ∙ c .before .before .a .given .1) (c .count-front .ensures)
+    read-held (a .lim) (now (a .k)) (λ i. known .shared-slice-known .given i .fits) _ _ (sym (at-read .read-set .ensures) ∙ at-count .read2 .given .1) (c .count-front .ensures)
 
 read-set-requires : tie.Need-read-set-requires
 read-set-requires c κs = search needs
 
-enum-known-a : tie.Need-enum-known-a
-enum-known-a c = search needs
+enum-known-read : tie.Need-enum-known-read
+enum-known-read c = search needs
 
-enum-told : tie.Need-enum-told
-enum-told c = search needs
-
-refused-set-requires : tie.Need-refused-set-requires
-refused-set-requires c κs = search needs
-
-returns : tie.Need-returns
-returns c =
-    let at-read = c .before .before .before in
-    let a = at-read .before .before .before .args in
-    restricted-refused (a .lim) (now (a .k)) (a .out .now) (at-read .read-set .ensures) (c .before .enum-told .given .1) (c .refused-set .ensures)
+enum-known-read-2 : tie.Need-enum-known-read-2
+enum-known-read-2 c = search needs
 
 count-front-requires : tie.Need-count-front-requires
 count-front-requires c κs =
     let at-read = c .before .before .before in
     let known = at-read .before .before in
     let a = known .before .args in
-    omega (arith, read-whole (a .lim) (now (a .k)) (λ i. known .shared-slice-known .given i .fits) _ (sym (at-read .read-set .ensures) ∙ c .before .a .given .1))
+    omega (arith, read-whole (a .lim) (now (a .k)) (λ i. known .shared-slice-known .given i .fits) _ (sym (at-read .read-set .ensures) ∙ c .before .read2 .given .1))
 
 mul-bytes : tie.Need-mul-bytes
 mul-bytes c = omega (arith, held-now c .counted)
@@ -49,8 +40,8 @@ mul-bytes c = omega (arith, held-now c .counted)
 add-size : tie.Need-add-size
 add-size c = omega (arith, held-now c .counted)
 
-returns-2 : tie.Need-returns-2
-returns-2 c =
+returns : tie.Need-returns
+returns c =
     let a = c .before .before .before .before .before .before .before .before .args in
     restricted-short (a .lim) (now (a .k)) (a .out .now) (held-now (c .before)) (c .if1 .taken)
 
@@ -63,9 +54,16 @@ write-set-header-requires c κs = search needs
 copy-requires : tie.Need-copy-requires
 copy-requires c κs =
     let at-front = c .before .before .before in
-    let at-count = at-front .before .before .before in
-    let w = held-now at-count in
-    (omega (arith, w .whole, w .few), omega (arith, at-front .before .before .if1 .left, at-front .write-set-header .kept .1 .0))
+    let at-test = at-front .before .before in
+    let w = held-now (at-test .before) in
+    (omega (arith, w .whole, w .few), omega (arith, at-test .if1 .left, at-front .write-set-header .kept .1 .0))
+
+returns-2 : tie.Need-returns-2
+returns-2 c =
+    let at-refused = c .before in
+    let at-read = at-refused .before .before in
+    let a = at-read .before .before .before .args in
+    restricted-refused (a .lim) (now (a .k)) (a .out .now) (sym (at-read .read-set .ensures) ∙ at-refused .read .given .1)
 
 same-length : tie.Need-same-length
 same-length c = search needs
@@ -74,25 +72,25 @@ returns-3 : tie.Need-returns-3
 returns-3 c =
     let at-copy = c .before .before in
     let at-front = at-copy .before .before .before .before in
-    let at-count = at-front .before .before .before in
+    let at-test = at-front .before .before in
+    let at-count = at-test .before in
     let a = at-count .before .before .before .before .before .before .before .args in
-    restricted-written (a .lim) (now (a .k)) (a .out .now) (held-now at-count) (at-front .before .before .if1 .left) (at-front .write-set-header .ensures) (at-copy .copy .ensures)
+    restricted-written (a .lim) (now (a .k)) (a .out .now) (held-now at-count) (at-test .if1 .left) (at-front .write-set-header .ensures) (at-copy .copy .ensures)
 
 pub restrict-spec : {M : Type 1} → statement M
 restrict-spec =
     tie.close
     (tie.spec
     read-set-requires
-    enum-known-a
-    enum-told
-    refused-set-requires
-    returns
+    enum-known-read
+    enum-known-read-2
     count-front-requires
     mul-bytes
     add-size
-    returns-2
+    returns
     cast-write-set-header
     write-set-header-requires
     copy-requires
+    returns-2
     same-length
     returns-3)

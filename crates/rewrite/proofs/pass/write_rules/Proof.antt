@@ -12,9 +12,9 @@ use borrow.Rule.Slice.PartAt.{part-to-end}
 use Rattle.buffer.specs.Write.{write}
 use Rattle.semantics.specs.Translation.{translation}
 use Rattle.record.specs.Layout.{encodedProgram}
-use Rattle.record.specs.Size.{recordSize}
-use Rattle.emit.specs.Starts.{Starts}
-use Rattle.expand.specs.Writing.{lengthAt, countAt}
+use Rattle.record.specs.Code.{recordSize}
+use Rattle.emit.specs.Code.{Starts}
+use Rattle.expand.specs.Code.{lengthAt, countAt}
 use Rattle.rewrite.proofs.Laws.Pass.{Left, Next, Pass, pass-start, pass-next, pass-left, short-source, left-open, left-next, left-end}
 use Rattle.rewrite.proofs.pass.write_rules.Statement.{statement}
 use Rattle.rewrite.proofs.pass.write_rules.Tie as tie

@@ -9,7 +9,7 @@ use borrow.Author.Tests.{not-true, not-false}
 use borrow.Fn.Kinds.{In}
 use borrow.Fn.PlainCycle.{Measures, is, falls, and}
 use denote.Ref.{now}
-use Rattle.narrow.specs.Clause.{Model}
+use Rattle.narrow.specs.Code.{Model}
 use Rattle.narrow.proofs.Laws.Narrow.{open-count, fewer-open}
 use Rattle.narrow.proofs.narrow.propagate.Reads as propagate-reads
 use Rattle.pick.proofs.pick.pick.Reads as pick-reads
@@ -63,7 +63,7 @@ settle-try-open-requires t c κs =
     let a = start .args in
     let v = at-propagate .propagate .ensures in
     let fewer = fewer-open {P = Model (a .whole) (now (a .bodies)) (now (a .heads)) (a .count)} (v .kept) in
-    (omega (arith, fewer, start .pre .0), (start .pre .1 .0, start .pre .1 .1, v .kept .inside (start .pre .1 .2), v .leaf (not-false _ (c .if1 .left))))
+    (omega (arith, fewer, start .pre .0), (start .pre .1 .0, start .pre .1 .1, v .kept .inside (start .pre .1 .2), v .leaf (not-false _ (c .if1 .left)), v .settled (not-false _ (c .if1 .left))))
 
 settle-returns-2 : (t : ℕ) → settle-lts.Need-returns-2 (settle-claims t) (settle-at t) settle.Post
 settle-returns-2 t c = any-left (c .before .before .before .propagate .ensures) (c .try-open .ensures)

@@ -4,8 +4,8 @@
 use borrow.Author.Needs.{needs}
 use borrow.Author.Tests.{not-true, not-false}
 use denote.Ref.{now}
-use Rattle.narrow.specs.Clause.{Model}
-use Rattle.search.specs.Search.{Candidate}
+use Rattle.narrow.specs.Code.{Model}
+use Rattle.search.specs.Code.{Candidate}
 use Rattle.search.proofs.Laws.First.{first-none}
 use Rattle.search.proofs.Laws.Smaller.{first-smaller}
 use Rattle.search.proofs.find.find_smaller.Statement.{statement}

@@ -1,7 +1,7 @@
 -- `find::lower` meets its contract. Invariant: the model at hand is between the bounds, and the first of the models between
 -- them is the first of all. Measure: the open literals.
 -- Assumes nothing.
-use Rattle.narrow.specs.Clause.{Model}
+use Rattle.narrow.specs.Code.{Model}
 use Rattle.narrow.proofs.Laws.Narrow.{open-count}
 use Rattle.search.proofs.Laws.Open.{open-some, tries-inside, tries-less}
 use Rattle.search.proofs.Laws.Lower.{Lowered, lowered-start, lacks, lowered-absent, lowered-present, lowered-end}

@@ -8,8 +8,8 @@ use borrow.Author.Needs.{needs}
 use denote.Ref.{now}
 use lib.ListN.{length, drop, length-drop}
 use borrow.Rule.Slice.PartAt.{part-to-end}
-use Rattle.record.specs.Size.{recordSize}
-use Rattle.showing.specs.Walk.{walked, Walks}
+use Rattle.record.specs.Code.{recordSize}
+use Rattle.showing.specs.Code.{walked, Walks}
 use Rattle.record.proofs.Laws.Size.{size-large}
 use Rattle.showing.proofs.Laws.Walk.{walks-more, walked-more, walked-last, walks-start}
 use Rattle.showing.proofs.show.walk.Statement.{statement}

@@ -4,7 +4,7 @@ use mathlib.Core.Path.{sym, subst}
 use borrow.Author.Needs.{needs}
 use denote.Ref.{now}
 use Rattle.literal.specs.Limits.{source}
-use Rattle.measure.specs.Measure.{Writable}
+use Rattle.measure.specs.Code.{Writable}
 use Rattle.translate.proofs.Laws.Translate.{meets-same, writable-source}
 use Rattle.translate.proofs.translate.translate_source.Statement.{statement}
 use Rattle.translate.proofs.translate.translate_source.Tie as tie

@@ -10,7 +10,7 @@ use borrow.Author.Needs.{needs}
 use denote.Ref.{now}
 use Rattle.buffer.specs.Write.{write}
 use Rattle.buffer.proofs.Laws.Write.{write-nil}
-use Rattle.witness.specs.Witness.{pickedBytes}
+use Rattle.witness.specs.Code.{pickedBytes}
 use Rattle.witness.proofs.Laws.Witness.{length-picked-one, picked-end, picked-left, length-picked-record, picked-written}
 use Rattle.witness.proofs.witness.write_picked.Statement.{statement}
 use Rattle.witness.proofs.witness.write_picked.Tie as tie

@@ -2,7 +2,8 @@
 -- Assumes nothing.
 use mathlib.Core.Path.{sym, _∙_, ap, subst}
 use borrow.Author.Needs.{needs}
-use Rattle.word.specs.Words.{checkWord, ShortCheck}
+use Rattle.word.specs.Words.{checkWord}
+use Rattle.word.specs.Code.{ShortCheck}
 use Rattle.word.proofs.word.check_word.Statement.{statement}
 use Rattle.word.proofs.word.check_word.Tie as tie
 

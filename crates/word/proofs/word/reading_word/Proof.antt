@@ -2,7 +2,8 @@
 -- Assumes nothing.
 use mathlib.Core.Path.{sym, _∙_, ap, subst}
 use borrow.Author.Needs.{needs}
-use Rattle.word.specs.Words.{readingWord, ShortReading}
+use Rattle.word.specs.Words.{readingWord}
+use Rattle.word.specs.Code.{ShortReading}
 use Rattle.word.proofs.word.reading_word.Statement.{statement}
 use Rattle.word.proofs.word.reading_word.Tie as tie
 

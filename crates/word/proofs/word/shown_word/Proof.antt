@@ -2,7 +2,8 @@
 -- Assumes nothing.
 use mathlib.Core.Path.{sym, _∙_, ap, subst}
 use borrow.Author.Needs.{needs}
-use Rattle.word.specs.Words.{shownWord, ShortShown}
+use Rattle.word.specs.Words.{shownWord}
+use Rattle.word.specs.Code.{ShortShown}
 use Rattle.word.proofs.word.shown_word.Statement.{statement}
 use Rattle.word.proofs.word.shown_word.Tie as tie
 

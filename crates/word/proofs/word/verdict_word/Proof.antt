@@ -3,7 +3,8 @@
 use native.Mathlib.Omega.{arith}
 use mathlib.Core.Path.{sym, ap, subst}
 use borrow.Author.Needs.{needs}
-use Rattle.word.specs.Words.{verdictWord, ShortVerdict}
+use Rattle.word.specs.Words.{verdictWord}
+use Rattle.word.specs.Code.{ShortVerdict}
 use Rattle.word.proofs.word.verdict_word.Statement.{statement}
 use Rattle.word.proofs.word.verdict_word.Tie as tie
 
@@ -16,8 +17,11 @@ add-result c = omega (arith, subst ShortVerdict (c .before .v .given .1) (c .bef
 enum-known-v-2 : tie.Need-enum-known-v-2
 enum-known-v-2 c = search needs
 
+cast-result : tie.Need-cast-result
+cast-result c = search needs
+
 add-result-2 : tie.Need-add-result-2
-add-result-2 c = omega (arith, subst ShortVerdict (c .before .v2 .given .1) (c .before .before .before .pre))
+add-result-2 c = search needs
 
 enum-known-v-3 : tie.Need-enum-known-v-3
 enum-known-v-3 c = search needs
@@ -32,7 +36,7 @@ returns : tie.Need-returns
 returns c = sym (ap verdictWord (c .before .v .given .1))
 
 returns-2 : tie.Need-returns-2
-returns-2 c = sym (ap verdictWord (c .before .v2 .given .1))
+returns-2 c = sym (ap verdictWord (c .before .before .v2 .given .1))
 
 returns-3 : tie.Need-returns-3
 returns-3 c = sym (ap verdictWord (c .before .v3 .given .1))
@@ -47,6 +51,7 @@ verdict-word-spec =
     enum-known-v
     add-result
     enum-known-v-2
+    cast-result
     add-result-2
     enum-known-v-3
     add-result-3

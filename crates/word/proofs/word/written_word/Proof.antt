@@ -2,7 +2,8 @@
 -- Assumes nothing.
 use mathlib.Core.Path.{sym, _∙_, ap, subst}
 use borrow.Author.Needs.{needs}
-use Rattle.word.specs.Words.{writtenWord, ShortWritten}
+use Rattle.word.specs.Words.{writtenWord}
+use Rattle.word.specs.Code.{ShortWritten}
 use Rattle.word.proofs.word.written_word.Statement.{statement}
 use Rattle.word.proofs.word.written_word.Tie as tie
 

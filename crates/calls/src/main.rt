@@ -1,0 +1,168 @@
+// A program that calls every entry point that Rattle code has, on document 01's marked examples, and tells what each answers.
+// tests/calls.py makes the same lines from the reference alone.
+mod ask;
+mod tell;
+
+use crate::ask::ask_program;
+use crate::ask::ask_rule;
+use crate::ask::ask_set;
+use crate::ask::ask_translate;
+use crate::tell::front;
+use crate::tell::tell_written;
+use extend::extend::extend_source;
+use record::Written;
+use translate::translate::translate_source;
+
+// Room for every result here: M3's translation has 433 bytes.
+const ROOM: usize = 512;
+
+// The number of bytes written.
+fn length_of(a: Written) -> usize {
+    match a {
+        Written::Length(n) => n,
+        Written::Refused(_) => 0,
+    }
+}
+
+// A source, and its translation as a program.
+fn source(example: &[u8], translated: &[u8], s: &[u8]) {
+    let mut plain = [0u8; ROOM];
+    ask_program(example, s);
+    let a = translate_source(s, &mut plain);
+    tell_written(example, b"translate_source", a, &plain);
+    ask_program(translated, front(&plain, length_of(a)));
+}
+
+// A set beside a program.
+fn set(example: &[u8], s: &[u8], k: &[u8]) {
+    let mut out = [0u8; ROOM];
+    ask_set(example, s, k, &mut out);
+}
+
+// A set beside a source, and its extension beside the translation.
+fn source_set(example: &[u8], translated: &[u8], s: &[u8], k: &[u8]) {
+    let mut plain = [0u8; ROOM];
+    let mut extension = [0u8; ROOM];
+    set(example, s, k);
+    let n = length_of(translate_source(s, &mut plain));
+    let m = length_of(extend_source(s, k, &mut extension));
+    set(translated, front(&plain, n), front(&extension, m));
+}
+
+// Tag 7: 1. Its translation has 94 bytes; 93 are too few.
+fn m1() {
+    let s = b"D:\x00\x07\x01\x00\x00\x00\x00\x00\x00\x01E:\x00\x01";
+    let mut exact = [0u8; 94];
+    let mut short = [0u8; 93];
+    source(b"M1", b"M1 translated", s);
+    ask_rule(b"M1", s, 0);
+    ask_rule(b"M1", s, 2);
+    ask_translate(b"M1 into 94 bytes", s, &mut exact);
+    ask_translate(b"M1 into 93 bytes", s, &mut short);
+    source_set(
+        b"M1 {1}",
+        b"M1 {1} translated",
+        s,
+        b"A:\x00\x01\x00\x00\x00\x00\x01",
+    );
+}
+
+// No bytes.
+fn m2() {
+    let mut out = [0u8; ROOM];
+    ask_program(b"M2", b"");
+    ask_translate(b"M2", b"", &mut out);
+    set(b"M2 {}", b"", b"A:\x00\x00");
+}
+
+// 000's Example 1, and its four answer sets.
+fn m3() {
+    let s = b"D:\x00\x01\x03\x00\x00\x00\x00\x00\x00\x01\x00\x00\x00\x00\x02\x00\x00\x00\x00\x03\
+        D:\x00\x02\x02\x00\x00\x00\x00\x00\x00\x04\x00\x00\x00\x00\x05\
+        S:\x00\x00\x01\x01\x00\x02\x00\x02\x00\x04\x00\x00\x00\x00\x01\
+        S:\x00\x00\x01\x01\x00\x02\x00\x02\x00\x05\x00\x00\x00\x00\x01\
+        S:\x00\x00\x01\x01\x00\x02\x00\x02\x00\x05\x00\x00\x00\x00\x02E:\x00\x05";
+    let first = b"A:\x00\x03\x00\x00\x00\x00\x01\x02\x00\x02\x00\x04\x02\x00\x02\x00\x05";
+    let second = b"A:\x00\x03\x00\x00\x00\x00\x02\x00\x00\x00\x00\x04\x02\x00\x02\x00\x05";
+    let third = b"A:\x00\x02\x00\x00\x00\x00\x03\x00\x00\x00\x00\x04";
+    let fourth = b"A:\x00\x02\x00\x00\x00\x00\x03\x00\x00\x00\x00\x05";
+    source(b"M3", b"M3 translated", s);
+    ask_rule(b"M3", s, 5);
+    source_set(b"M3 first", b"M3 first translated", s, first);
+    source_set(b"M3 second", b"M3 second translated", s, second);
+    source_set(b"M3 third", b"M3 third translated", s, third);
+    source_set(b"M3 fourth", b"M3 fourth translated", s, fourth);
+}
+
+// 1; tag 7: 1 if 2.
+fn m4() {
+    let s = b"S:\x00\x00\x01\x00\x00\x00\x00\x00\x00\x01\
+        D:\x00\x07\x01\x01\x00\x00\x00\x00\x00\x01\x00\x00\x00\x00\x02E:\x00\x02";
+    source(b"M4", b"M4 translated", s);
+    source_set(
+        b"M4 {1}",
+        b"M4 {1} translated",
+        s,
+        b"A:\x00\x01\x00\x00\x00\x00\x01",
+    );
+}
+
+// Tag 7: 1; tag 7: 2; defeated (7, 1). The set is {2, defeated (7, 1)}.
+fn m5() {
+    let s = b"D:\x00\x07\x01\x00\x00\x00\x00\x00\x00\x01\
+        D:\x00\x07\x01\x00\x00\x00\x00\x00\x00\x02\
+        S:\x00\x00\x01\x00\x00\x02\x00\x07\x00\x01E:\x00\x03";
+    let k = b"A:\x00\x02\x00\x00\x00\x00\x02\x02\x00\x07\x00\x01";
+    source(b"M5", b"M5 translated", s);
+    source_set(b"M5 set", b"M5 set translated", s, k);
+}
+
+// 1 or 2. A set that does not ascend is refused, and one without its mark; so is a buffer of three bytes.
+fn m6() {
+    let s = b"S:\x00\x00\x02\x00\x00\x00\x00\x00\x00\x01\x00\x00\x00\x00\x02E:\x00\x01";
+    let k = b"A:\x00\x02\x00\x00\x00\x00\x01\x00\x00\x00\x00\x02";
+    let mut short = [0u8; 3];
+    ask_program(b"M6", s);
+    ask_rule(b"M6", s, 2);
+    set(b"M6 {1, 2}", s, k);
+    set(
+        b"M6 {2, 1}",
+        s,
+        b"A:\x00\x02\x00\x00\x00\x00\x02\x00\x00\x00\x00\x01",
+    );
+    set(b"M6 no set", s, b"S:\x00\x00");
+    ask_set(b"M6 {1, 2} into 3 bytes", s, k, &mut short);
+}
+
+// No rules, and an atom with its negation.
+fn m7() {
+    let k = b"A:\x00\x02\x00\x00\x00\x00\x01\x01\x00\x00\x00\x01";
+    set(b"M7 {1, negated 1}", b"E:\x00\x00", k);
+}
+
+// A rule without head or body.
+fn m8() {
+    let s = b"S:\x00\x00\x00\x00\x00E:\x00\x01";
+    ask_program(b"M8", s);
+    set(b"M8 {}", s, b"A:\x00\x00");
+}
+
+// No rules.
+fn m9() {
+    let s = b"E:\x00\x00";
+    ask_program(b"M9", s);
+    set(b"M9 {}", s, b"A:\x00\x00");
+    set(b"M9 {1}", s, b"A:\x00\x01\x00\x00\x00\x00\x01");
+}
+
+fn main() {
+    m1();
+    m2();
+    m3();
+    m4();
+    m5();
+    m6();
+    m7();
+    m8();
+    m9();
+}

@@ -1,0 +1,23 @@
+-- `clash::oppose` meets its contract, by the sign.
+-- Assumes nothing.
+use borrow.Author.Needs.{needs}
+use Rattle.literal.specs.Literal.{opposite}
+use Rattle.clash.proofs.clash.oppose.Statement.{statement}
+use Rattle.clash.proofs.clash.oppose.Tie as tie
+
+enum-known-a : tie.Need-enum-known-a
+enum-known-a c = search needs
+
+enum-known-a-2 : tie.Need-enum-known-a-2
+enum-known-a-2 c = search needs
+
+returns : tie.Need-returns
+unfolding opposite
+returns c = rw (c .before .a .given .1)
+
+returns-2 : tie.Need-returns-2
+unfolding opposite
+returns-2 c = rw (c .before .a2 .given .1)
+
+pub oppose-spec : {M : Type 1} → statement M
+oppose-spec = tie.close (tie.spec enum-known-a enum-known-a-2 returns returns-2)

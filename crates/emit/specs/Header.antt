@@ -1,9 +1,0 @@
--- The header of a strict rule's record (01, "Records").
--- Assumes nothing.
-use Prim.Native.Nat.{ℕ}
-use mathlib.Core.List.{List, [], _∷_}
-use Rattle.record.specs.Layout.{colon}
-
--- S:, tag 0, and the three counts
-unfoldable pub header : ℕ → ℕ → ℕ → List ℕ
-header h b c = 0x53 ∷ (colon ∷ (0 ∷ (0 ∷ (h ∷ (b ∷ (c ∷ []))))))

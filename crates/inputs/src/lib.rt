@@ -1,0 +1,3 @@
+// A program and a set, read one behind the other.
+
+pub mod read;
