@@ -1,51 +1,16 @@
 //! The rows of the check, beside plain Rust with the same search and, where it is installed, clingo on the same question.
 
-use crate::plain_reader::{Limits, PLAIN, SOURCE};
+use crate::drawn::{Numbers, LONGER_RULES, PLAIN_KINDS};
+use crate::limits::{Limits, PLAIN, SOURCE};
+use crate::plain_reader::record_size;
 use crate::sets::WithProgram;
-use crate::{best, copied, exports, plain_check, speed_start, Numbers};
+use crate::writer::{atom, literal, set_record, Literal, Program, RULE_HEADER, SET_HEADER};
+use crate::{best, copied, exports, plain_check, speed_start};
 use std::collections::{BTreeMap, BTreeSet};
 use std::fmt::Write;
 use std::hint::black_box;
 use std::process::{Command, Stdio};
 use std::time::Instant;
-
-type Literal = [u8; 5];
-
-fn atom(number: u16) -> Literal {
-    let [high, low] = number.to_be_bytes();
-    [0, 0, 0, high, low]
-}
-
-fn set_record(literals: &BTreeSet<Literal>) -> Vec<u8> {
-    let mut out = b"A:".to_vec();
-    out.extend((literals.len() as u16).to_be_bytes());
-    out.extend(literals.iter().flatten());
-    out
-}
-
-/// A program being written.
-#[derive(Default)]
-struct Program {
-    bytes: Vec<u8>,
-    rules: u16,
-}
-
-impl Program {
-    /// A rule with this tag, 0 for a strict one.
-    fn rule(&mut self, tag: u16, heads: &[Literal], positives: &[Literal], nafs: &[Literal]) {
-        self.bytes.extend(if tag == 0 { b"S:" } else { b"D:" });
-        self.bytes.extend(tag.to_be_bytes());
-        self.bytes.extend([heads, positives, nafs].map(|part| part.len() as u8));
-        self.bytes.extend([heads, positives, nafs].concat().iter().flatten());
-        self.rules += 1;
-    }
-
-    fn record(mut self) -> Vec<u8> {
-        self.bytes.extend(b"E:");
-        self.bytes.extend(self.rules.to_be_bytes());
-        self.bytes
-    }
-}
 
 /// One question: is this set an answer set of this program?
 struct Question {
@@ -65,52 +30,56 @@ fn some(numbers: &mut Numbers, count: usize, literals: &[Literal]) -> Vec<Litera
     drawn
 }
 
-/// The longest source: 256 rules of 16, 16 and 16 literals, every other one with options, over 48 atoms and 16 defeats.
-/// The body of each of the first 64 is one literal again and again. No rule is removed: all 256 clauses are searched.
+/// The longest source, every other rule with options, over a set of 48 atoms and 16 defeats. The body of each of the first 64
+/// rules is one literal again and again. No rule is removed: the clauses of all of them are searched.
 fn source() -> Question {
+    const DEFEATED: u16 = 16;
+    const FIRST_OTHER: u16 = 101;
     let mut numbers = Numbers(11);
-    let atoms: Vec<Literal> = (1..=48).map(atom).collect();
-    let defeats: Vec<Literal> = (1..=16).map(|n| [2, 0, 1, 0, n]).collect();
-    let others: Vec<Literal> = (101..=500).map(atom).collect();
+    let atoms: Vec<Literal> = (1..=SOURCE.checked as u16 - DEFEATED).map(atom).collect();
+    let defeats: Vec<Literal> = (1..=DEFEATED).map(|number| literal(2, 1, number)).collect();
+    let others: Vec<Literal> = (FIRST_OTHER..=SOURCE.atoms).map(atom).collect();
+    let (in_heads, in_nafs) = others.split_at(others.len() / 2);
     let set: Vec<Literal> = [&atoms[..], &defeats[..]].concat();
     let mut program = Program::default();
-    for i in 0..256 {
+    for i in 0..SOURCE.rules {
         let options = i % 2 == 0;
-        // Options 1 to 16 are defeated under tag 1; one head at least is left in the set.
-        let mut heads = some(&mut numbers, 2, if options { &atoms[16..] } else { &set });
-        heads.extend(some(&mut numbers, 14, if options { &others } else { &others[..200] }));
-        let bodies = if i < 64 { vec![set[i]; 16] } else { some(&mut numbers, 16, &set) };
-        let nafs = some(&mut numbers, 16, &others[200..]);
-        program.rule(u16::from(options), &heads, &bodies, &nafs);
+        // The first atoms are defeated as options under tag 1; two heads are left in the set.
+        let mut heads = some(&mut numbers, 2, if options { &atoms[DEFEATED.into()..] } else { &set });
+        heads.extend(some(&mut numbers, SOURCE.heads - 2, if options { &others } else { in_heads }));
+        let size = SOURCE.positives;
+        let positives = if i < set.len() { vec![set[i]; size] } else { some(&mut numbers, size, &set) };
+        let nafs = some(&mut numbers, SOURCE.nafs, in_nafs);
+        program.rule(u16::from(options), &heads, &positives, &nafs);
     }
-    Question { program: program.record(), set: set_record(&set.into_iter().collect()) }
+    Question { program: program.end(), set: set_record(&set.into_iter().collect()) }
 }
 
-/// The longest plain program: 12,800 rules of three and four literals over a set of 64, each kind in it. In eight rules, one
-/// is removed by its naf literal and one has a positive literal outside the set; the others are clauses.
+/// The longest plain program: rules of three and four literals over a set of as many as are checked, each kind in it. In eight
+/// rules, one is removed by its naf literal and one has a positive literal outside the set; the others are clauses.
 fn plain() -> Question {
     let mut numbers = Numbers(13);
-    let kinds = |i: u16| -> Literal {
-        let [high, low] = (1 + 3 * i).to_be_bytes();
-        let kind = (i % 7) as u8;
-        [kind, 0, if (2..=5).contains(&kind) { 7 } else { 0 }, high, low]
+    let of_each_kind = |i: u16, number: u16| -> Literal {
+        let kind = (i % PLAIN_KINDS as u16) as u8;
+        literal(kind, if (2..=5).contains(&kind) { 7 } else { 0 }, number)
     };
-    let inside: Vec<Literal> = (0..64).map(kinds).collect();
-    let outside: Vec<Literal> = (0..64).map(|i| [kinds(i)[0], 0, kinds(i)[2], kinds(i)[3], kinds(i)[4] + 1]).collect();
+    let size = PLAIN.checked as u16;
+    let inside: Vec<Literal> = (0..size).map(|i| of_each_kind(i, 3 * i + 1)).collect();
+    let outside: Vec<Literal> = (0..size).map(|i| of_each_kind(i, 3 * i + 2)).collect();
     let mut program = Program::default();
-    for i in 0..12_800 {
-        let positives = if i < 7_168 { 2 } else { 1 };
+    for i in 0..PLAIN.rules {
+        let positives = if i < LONGER_RULES { 2 } else { 1 };
         let (heads, mut body) = (some(&mut numbers, 1, &inside), some(&mut numbers, positives, &inside));
         let naf = some(&mut numbers, 1, if i % 8 == 3 { &inside } else { &outside });
         if i % 8 == 5 {
-            body[positives - 1] = outside[numbers.below(64) as usize];
+            body[positives - 1] = outside[numbers.below(size.into()) as usize];
         }
         match i % 100 {
             0 => program.rule(0, &[&heads[..], &body[..]].concat(), &[], &naf),
             _ => program.rule(0, &heads, &body, &naf),
         }
     }
-    Question { program: program.record(), set: set_record(&inside.into_iter().collect()) }
+    Question { program: program.end(), set: set_record(&inside.into_iter().collect()) }
 }
 
 /// A search over the atoms 1 to `atoms`: `clauses` strict rules, each of as many different atoms as one of `sizes`, some of
@@ -133,18 +102,18 @@ fn hard(numbers: &mut Numbers, atoms: u16, clauses: usize, sizes: &[usize]) -> Q
         }
         program.rule(0, &drawn[..heads], &drawn[heads..], &[]);
     }
-    Question { program: program.record(), set: set_record(&all.into_iter().collect()) }
+    Question { program: program.end(), set: set_record(&all.into_iter().collect()) }
 }
 
-/// The hard searches: 60 to 64 atoms, clauses of 2 to 4, and of each family as many clauses for each atom as make about half
-/// of the searches end in a model, and somewhat fewer and more. There the searches are longest.
+/// The hard searches: as many atoms as are checked, or up to four fewer, clauses of 2 to 4, and of each family as many clauses
+/// for each atom as make about half of the searches end in a model, and somewhat fewer and more. There the searches are longest.
 fn mixed() -> Vec<Question> {
     const FAMILIES: [(&[usize], [usize; 3]); 3] =
         [(&[3], [400, 425, 450]), (&[2, 3, 3, 4, 4], [350, 375, 400]), (&[3, 4, 4], [650, 675, 700])];
     let mut numbers = Numbers(17);
     let question = |i: usize| {
         let (sizes, hundredths) = FAMILIES[i % 3];
-        let atoms = 60 + i % 5;
+        let atoms = PLAIN.checked - 4 + i % 5;
         hard(&mut numbers, atoms as u16, atoms * hundredths[i / 3 % 3] / 100, sizes)
     };
     (0..240).map(question).collect()
@@ -153,7 +122,9 @@ fn mixed() -> Vec<Question> {
 /// The hardest: clauses of 4 alone, where a search takes seconds.
 fn fours() -> Vec<Question> {
     let mut numbers = Numbers(23);
-    [900, 950, 975, 1_000, 1_025, 1_050].iter().map(|hundredths| hard(&mut numbers, 64, 64 * hundredths / 100, &[4])).collect()
+    let atoms = PLAIN.checked;
+    let question = |hundredths| hard(&mut numbers, atoms as u16, atoms * hundredths / 100, &[4]);
+    [900, 950, 975, 1_000, 1_025, 1_050].map(question).into()
 }
 
 fn proved(check: WithProgram, question: &Question, out: &mut [u8]) -> u64 {
@@ -186,9 +157,8 @@ fn agreed(name: &str, limits: &Limits, check: WithProgram, question: &Question, 
 fn rules(question: &Question) -> Vec<(&[Literal], usize, usize)> {
     let (mut rest, mut found) = (&question.program[..], Vec::new());
     while rest[0] == b'S' {
-        let [heads, positives, nafs] = [rest[4], rest[5], rest[6]].map(usize::from);
-        let (record, behind) = rest.split_at(7 + 5 * (heads + positives + nafs));
-        found.push((record[7..].as_chunks().0, heads, positives));
+        let (record, behind) = rest.split_at(record_size(rest));
+        found.push((record[RULE_HEADER..].as_chunks().0, record[4].into(), record[5].into()));
         rest = behind;
     }
     found
@@ -196,7 +166,7 @@ fn rules(question: &Question) -> Vec<(&[Literal], usize, usize)> {
 
 /// The literals of the set, and those that only the program has.
 fn in_and_out(question: &Question) -> (BTreeSet<Literal>, BTreeSet<Literal>) {
-    let set: BTreeSet<Literal> = question.set[4..].as_chunks().0.iter().copied().collect();
+    let set: BTreeSet<Literal> = question.set[SET_HEADER..].as_chunks().0.iter().copied().collect();
     let all: BTreeSet<Literal> = rules(question).iter().flat_map(|rule| rule.0).copied().collect();
     let out = &all - &set;
     (set, out)
@@ -334,7 +304,7 @@ fn hard_rows(name: &str, questions: &[Question], times: usize, step: usize, clin
 pub fn rows() {
     let clingo = Clingo::modes();
     row("check source", &SOURCE, exports::check_source, &source(), None);
-    row("check plain 12800", &PLAIN, exports::check_plain, &plain(), Some(&clingo));
+    row(&format!("check plain {}", PLAIN.rules), &PLAIN, exports::check_plain, &plain(), Some(&clingo));
     println!("\nsearches             checks   proved ms   beside            ms  ratio");
     hard_rows("check hard", &mixed(), 3, 11, &clingo);
     hard_rows("check hard 4", &fours(), 3, 1, &clingo);

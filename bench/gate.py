@@ -63,12 +63,13 @@ def main():
     memory.ended.set()
     proved = {found[1]: int(found[2]) for found in map(PROVED.match, lines) if found}
     edits = [(int(found[3]), found[1], found[2]) for found in map(REFUSED.match, lines) if found]
-    print("crate        seconds     MiB   edits   seconds of edits")
+    width = max(map(len, ["crate", *proved]))
+    print(f"{'crate':<{width}} seconds     MiB   edits   seconds of edits")
     for crate, seconds in proved.items():
         own = [edit[0] for edit in edits if edit[1] == crate]
-        print(f"{crate:<12} {seconds:>7} {memory.most[crate] // 1024:>7} {len(own):>7} {sum(own):>18}")
+        print(f"{crate:<{width}} {seconds:>7} {memory.most[crate] // 1024:>7} {len(own):>7} {sum(own):>18}")
     total = sum(edit[0] for edit in edits)
-    print(f"{'all':<12} {sum(proved.values()):>7} {max(memory.most.values(), default=0) // 1024:>7} {len(edits):>7} {total:>18}")
+    print(f"{'all':<{width}} {sum(proved.values()):>7} {max(memory.most.values(), default=0) // 1024:>7} {len(edits):>7} {total:>18}")
     for seconds, crate, edit in sorted(edits, reverse=True)[:SLOWEST]:
         print(f"{seconds:>4} s  {crate}/{edit}")
     return status

@@ -1,46 +1,36 @@
 //! How time grows with a program: each operation on 1, 2, 4 .. 256 rules, as nanoseconds for each byte of the program.
 
-use crate::{exports, sets::WithProgram, Numbers};
+use crate::drawn::Numbers;
+use crate::limits::{SOURCE, TIMES_LONGER};
+use crate::writer::{atom, set_record, Program};
+use crate::{exports, sets::WithProgram};
 use std::hint::black_box;
 use std::time::Instant;
 
-const SIZES: [usize; 9] = [1, 2, 4, 8, 16, 32, 64, 128, 256];
-/// As many literals as a set has that is checked.
-const CHECKED: usize = 64;
-
-fn atom(number: usize) -> [u8; 5] {
-    let [high, low] = (number as u16).to_be_bytes();
-    [0, 0, 0, high, low]
-}
+const SIZES: [usize; 9] = [1, 2, 4, 8, 16, 32, 64, 128, SOURCE.rules];
+/// As many heads as a set has that is checked; from these atoms on, the numbers of naf literals.
+const HEADS: usize = SOURCE.checked;
+const FIRST_NAF: u16 = 101;
 
 /// `count` rules, every other one defeasible. Rule i has its own atom for head, which the rules before it hold up, and ten naf
 /// literals that nothing does: the atoms that are heads are the one answer set, and each operation has work in each rule.
 fn program(count: usize) -> Vec<u8> {
     let mut numbers = Numbers(29);
-    let mut out = Vec::new();
+    let mut program = Program::default();
     for i in 0..count {
-        let own = i % CHECKED;
-        let options = i % 2 == 0;
-        out.extend(if options { *b"D:" } else { *b"S:" });
-        out.extend(if options { [0, 1 + (i % 200) as u8] } else { [0, 0] });
-        let body = own.min(6);
-        out.extend([1, body as u8, 10]);
-        out.extend(atom(1 + own));
-        (0..body).for_each(|_| out.extend(atom(1 + numbers.below(own as u32) as usize)));
-        (0..10).for_each(|_| out.extend(atom(101 + numbers.below(400) as usize)));
+        let own = (i % HEADS) as u16;
+        let tag = if i % 2 == 0 { 1 + i as u16 % SOURCE.tags } else { 0 };
+        let before: Vec<_> = (0..own.min(6)).map(|_| atom(1 + numbers.below(own.into()) as u16)).collect();
+        let others = SOURCE.atoms + 1 - FIRST_NAF;
+        let nafs: Vec<_> = (0..10).map(|_| atom(FIRST_NAF + numbers.below(others.into()) as u16)).collect();
+        program.rule(tag, &[atom(1 + own)], &before, &nafs);
     }
-    out.extend(*b"E:");
-    out.extend((count as u16).to_be_bytes());
-    out
+    program.end()
 }
 
 /// The A: record of the heads of `program(count)`.
 fn heads(count: usize) -> Vec<u8> {
-    let size = count.min(CHECKED);
-    let mut out = b"A:".to_vec();
-    out.extend((size as u16).to_be_bytes());
-    (1..=size).for_each(|number| out.extend(atom(number)));
-    out
+    set_record(&(1..=count.min(HEADS) as u16).map(atom).collect())
 }
 
 /// Seconds for one call: the best of many batches, each long enough for the clock.
@@ -71,7 +61,7 @@ fn line(name: &str, programs: &[Vec<u8>], mut call: impl FnMut(&[u8]) -> u64) {
 pub fn rows() {
     let sources: Vec<Vec<u8>> = SIZES.iter().map(|&count| program(count)).collect();
     let sets: Vec<Vec<u8>> = SIZES.iter().map(|&count| heads(count)).collect();
-    let mut out = vec![0; 13 * sources[8].len()];
+    let mut out = vec![0; TIMES_LONGER * sources[8].len()];
     let set = |program: &[u8]| &sets[sources.iter().position(|source| source.len() == program.len()).unwrap()];
     let plain: Vec<Vec<u8>> = sources.iter().map(|source| translated(source)).collect();
 
@@ -91,7 +81,7 @@ pub fn rows() {
 }
 
 fn translated(source: &[u8]) -> Vec<u8> {
-    let mut out = vec![0; 13 * source.len()];
+    let mut out = vec![0; TIMES_LONGER * source.len()];
     let length = exports::translate(source, &mut out);
     out.truncate(length as usize);
     out

@@ -3,73 +3,24 @@
 //! plain one's.
 
 mod checks;
+mod drawn;
 #[path = "../rust/aspda/src/exports.rs"]
 mod exports;
 mod growth;
+#[path = "../rust/limits.rs"]
+mod limits;
 mod output_sizes;
 mod plain_check;
 mod plain_reader;
 mod plain_sets;
 mod plain_translator;
 mod sets;
+mod writer;
 
-use plain_reader::{Limits, PLAIN, SOURCE};
+use drawn::{options, plain, source};
+use limits::{Limits, PLAIN, SOURCE, TIMES_LONGER};
 use std::hint::black_box;
 use std::time::Instant;
-
-/// A small repeatable generator, so that every run reads the same bytes.
-struct Numbers(u32);
-
-impl Numbers {
-    fn below(&mut self, n: u32) -> u32 {
-        self.0 = self.0.wrapping_mul(1_664_525).wrapping_add(1_013_904_223);
-        (self.0 >> 16) % n
-    }
-}
-
-fn literal(out: &mut Vec<u8>, numbers: &mut Numbers, kinds: u32) {
-    let kind = numbers.below(kinds) as u8;
-    let tag = if (2..=5).contains(&kind) { 1 + numbers.below(200) as u16 } else { 0 };
-    let number = if kind == 6 { 1 + numbers.below(256) as u16 } else { 1 + numbers.below(500) as u16 };
-    out.push(kind);
-    out.extend(tag.to_be_bytes());
-    out.extend(number.to_be_bytes());
-}
-
-/// A program of `counts.len()` rules with these head, positive and naf counts, whose rules `defeasible` have options.
-fn program(counts: &[(u8, u8, u8)], defeasible: fn(usize) -> bool, kinds: u32) -> Vec<u8> {
-    let mut numbers = Numbers(7);
-    let mut out = Vec::new();
-    for (i, &(h, b, c)) in counts.iter().enumerate() {
-        let options = defeasible(i);
-        out.extend(if options { *b"D:" } else { *b"S:" });
-        out.extend((if options { 1 + numbers.below(200) as u16 } else { 0 }).to_be_bytes());
-        out.extend([h, b, c]);
-        for k in 0..(h as u32 + b as u32 + c as u32) {
-            let head = k < h as u32;
-            literal(&mut out, &mut numbers, if head && options { 2 } else { kinds });
-        }
-    }
-    out.extend(*b"E:");
-    out.extend((counts.len() as u16).to_be_bytes());
-    out
-}
-
-/// The longest source: 256 rules of 16, 16 and 16 literals, every other one with options.
-fn source() -> Vec<u8> {
-    program(&[(16, 16, 16); 256], |i| i % 2 == 0, 4)
-}
-
-/// Options alone: the source whose translation is longest beside it.
-fn options() -> Vec<u8> {
-    program(&[(16, 0, 0); 256], |i| i % 2 == 0, 4)
-}
-
-/// The longest plain program: 12,800 rules of three and four literals.
-fn plain() -> Vec<u8> {
-    let counts: Vec<(u8, u8, u8)> = (0..12_800).map(|i| if i < 7_168 { (1, 2, 1) } else { (1, 1, 1) }).collect();
-    program(&counts, |_| false, 7)
-}
 
 /// Seconds for one call of each: the best of many short batches, taken in turn, so that other work on the machine
 /// weighs least and on both alike.
@@ -163,7 +114,7 @@ fn output_row(name: &str, room: usize, mut proved: impl FnMut(&mut [u8]) -> u64,
 fn translate_row(name: &str, source: &[u8]) {
     output_row(
         name,
-        13 * source.len(),
+        TIMES_LONGER * source.len(),
         |out| exports::translate(black_box(source), out),
         |out| plain_translator::translate(black_box(source), out),
     );

@@ -2,13 +2,15 @@
 //! while the others are defeated (tests/solver/traps.py has it as a program).
 
 use crate::exports;
+use crate::limits::{SOURCE, TIMES_LONGER};
+use crate::writer::{atom, Literal, Program};
 
 /// A rule with `options` options and no body, as a source.
 fn source(options: u8) -> Vec<u8> {
-    let mut out = vec![b'D', b':', 0, 1, options, 0, 0];
-    (1..=options).for_each(|number| out.extend([0, 0, 0, 0, number]));
-    out.extend(*b"E:\x00\x01");
-    out
+    let heads: Vec<Literal> = (1..=options.into()).map(atom).collect();
+    let mut program = Program::default();
+    program.rule(1, &heads, &[], &[]);
+    program.end()
 }
 
 /// The old translation's rules, and its bytes if it were written as records: heads and naf defeat marks for the options of the
@@ -21,9 +23,9 @@ fn old(options: u32) -> (u64, u64) {
 
 pub fn rows() {
     println!("\noptions of a rule   source bytes   rules   bytes   times   old rules   old bytes");
-    for options in [1u8, 2, 3, 4, 5, 8, 12, 16] {
+    for options in [1, 2, 3, 4, 5, 8, 12, SOURCE.heads as u8] {
         let source = source(options);
-        let mut out = vec![0; 13 * source.len()];
+        let mut out = vec![0; TIMES_LONGER * source.len()];
         let length = exports::translate(&source, &mut out) as usize;
         let rules = u16::from_be_bytes([out[length - 2], out[length - 1]]);
         assert_eq!(usize::from(rules), 3 * usize::from(options) + 2);

@@ -1,11 +1,11 @@
 //! The check in plain safe Rust, the measure for the proved one: the same refusals in the same order, the same search, the
 //! same word, the same witness. The program is read once into clauses over the set's positions; the search goes on those.
 
-use crate::plain_reader::{read, refusal, Limits};
+use crate::limits::Limits;
+use crate::plain_reader::{read, refusal};
 use crate::plain_sets::{key, read_set, Rules, Set};
 use crate::plain_translator::Out;
-
-const CHECKED: usize = 64;
+use crate::writer::{set_header, set_size, LITERAL};
 
 /// What is left of a rule, for parts of the set: some body literal missing or some head literal present.
 #[derive(Clone, Copy)]
@@ -23,7 +23,7 @@ struct Bounds {
 
 /// The bit of a literal, the set's first literal highest, or none where it is not in the set.
 fn bit(set: &Set, literal: &[u8]) -> Option<u64> {
-    let literals = set.bytes.as_chunks::<5>().0;
+    let literals = set.bytes.as_chunks::<LITERAL>().0;
     let place = literals.binary_search_by(|held| key(held).cmp(&key(literal))).ok()?;
     Some(1 << (literals.len() - 1 - place))
 }
@@ -31,7 +31,7 @@ fn bit(set: &Set, literal: &[u8]) -> Option<u64> {
 /// The position from 1 of the first literal whose opposite is in the set.
 fn clash(set: &Set) -> Option<u64> {
     let has_opposite = |literal: &[u8]| literal[0] < 2 && set.holds(&[1 - literal[0], 0, 0, literal[3], literal[4]]);
-    set.bytes.chunks_exact(5).position(has_opposite).map(|position| position as u64 + 1)
+    set.bytes.chunks_exact(LITERAL).position(has_opposite).map(|position| position as u64 + 1)
 }
 
 /// The clauses of the quotient, or the number of the first rule that does not hold in the set.
@@ -39,7 +39,7 @@ fn clauses(program: &[u8], rules: usize, set: &Set) -> Result<Vec<Clause>, u64> 
     let mut clauses = Vec::with_capacity(rules);
     for (rule, number) in Rules(program).zip(1..) {
         let Some(left) = rule.left(set) else { continue };
-        let positives = rule.positives.chunks_exact(5);
+        let positives = rule.positives.chunks_exact(LITERAL);
         let Some(body) = positives.map(|literal| bit(set, literal)).try_fold(0, |all, one| Some(all | one?)) else {
             continue;
         };
@@ -159,15 +159,14 @@ impl Search {
 fn write_picked(set: &Set, model: u64, out: &mut [u8]) -> u64 {
     let count = model.count_ones() as u16;
     let mut out = Out { bytes: out, to: 0 };
-    out.put(b"A:");
-    out.put(&count.to_be_bytes());
-    let size = set.bytes.len() / 5;
-    for (i, literal) in set.bytes.chunks_exact(5).enumerate() {
+    out.put(&set_header(count));
+    let size = set.bytes.len() / LITERAL;
+    for (i, literal) in set.bytes.chunks_exact(LITERAL).enumerate() {
         if model >> (size - 1 - i) & 1 == 1 {
             out.put(literal);
         }
     }
-    4 + 5 * count as u64
+    set_size(count as usize) as u64
 }
 
 fn verdict(limits: &Limits, program: &[u8], record: &[u8], out: &mut [u8]) -> Result<u64, u64> {
@@ -175,7 +174,7 @@ fn verdict(limits: &Limits, program: &[u8], record: &[u8], out: &mut [u8]) -> Re
     if held >> 63 == 1 {
         return Err(held);
     }
-    let set = read_set(limits, CHECKED, record)?;
+    let set = read_set(limits, limits.checked, record)?;
     if out.len() < record.len() {
         return Err(refusal(9, 0));
     }
@@ -186,7 +185,7 @@ fn verdict(limits: &Limits, program: &[u8], record: &[u8], out: &mut [u8]) -> Re
         Ok(clauses) => clauses,
         Err(rule) => return Ok((2 << 32) + rule),
     };
-    let all = u64::MAX.checked_shr(64 - (set.bytes.len() / 5) as u32).unwrap_or(0);
+    let all = u64::MAX.checked_shr(64 - (set.bytes.len() / LITERAL) as u32).unwrap_or(0);
     let search = Search { whole: Clause { body: all, head: 0 }, clauses };
     match search.first(Bounds { must: 0, may: all }) {
         None => Ok(0),

@@ -1,35 +1,7 @@
 //! A careful reader in plain safe Rust, the measure for the proved one: the same tests in the same order, the same word.
 
-pub struct Limits {
-    pub length: usize,
-    pub rules: usize,
-    pub heads: usize,
-    pub positives: usize,
-    pub nafs: usize,
-    pub defeasible: bool,
-    pub kinds: u8,
-    pub atoms: u16,
-    pub tags: u16,
-    pub numbers: u16,
-    pub set: usize,
-}
-
-pub const SOURCE: Limits = Limits {
-    length: 63_236,
-    rules: 256,
-    heads: 16,
-    positives: 16,
-    nafs: 16,
-    defeasible: true,
-    kinds: 3,
-    atoms: 500,
-    tags: 200,
-    numbers: 256,
-    set: 1_000,
-};
-
-pub const PLAIN: Limits =
-    Limits { length: 317_444, rules: 12_800, nafs: 17, defeasible: false, kinds: 6, set: 5_352, ..SOURCE };
+use crate::limits::Limits;
+use crate::writer::{rule_size, END, LITERAL, RULE_HEADER};
 
 pub fn refusal(number: u64, place: usize) -> u64 {
     (1 << 63) + (number << 32) + place as u64
@@ -53,7 +25,7 @@ pub fn is_literal(limits: &Limits, bytes: &[u8]) -> bool {
 
 /// The length of the rule's record at the start of `part`, or its refusal.
 fn rule(limits: &Limits, options: bool, part: &[u8], held: usize, at: usize) -> Result<usize, u64> {
-    if part.len() < 7 {
+    if part.len() < RULE_HEADER {
         return Err(refusal(2, at));
     }
     if held >= limits.rules {
@@ -67,16 +39,16 @@ fn rule(limits: &Limits, options: bool, part: &[u8], held: usize, at: usize) -> 
     if h > limits.heads || b > limits.positives || c > limits.nafs {
         return Err(refusal(4, at));
     }
-    let size = 7 + 5 * (h + b + c);
+    let size = rule_size(h + b + c);
     if part.len() < size {
         return Err(refusal(2, at));
     }
-    for (i, literal) in part[7..size].chunks_exact(5).enumerate() {
+    for (i, literal) in part[RULE_HEADER..size].chunks_exact(LITERAL).enumerate() {
         if !is_literal(limits, literal) {
-            return Err(refusal(5, at + 7 + 5 * i));
+            return Err(refusal(5, at + rule_size(i)));
         }
     }
-    if options && (h == 0 || part[7..7 + 5 * h].chunks_exact(5).any(|literal| literal[0] > 1)) {
+    if options && (h == 0 || part[RULE_HEADER..rule_size(h)].chunks_exact(LITERAL).any(|literal| literal[0] > 1)) {
         return Err(refusal(7, at));
     }
     Ok(size)
@@ -102,10 +74,10 @@ pub fn read(limits: &Limits, bytes: &[u8]) -> u64 {
                 Err(word) => return word,
             },
             b"E:" => {
-                if part.len() < 4 {
+                if part.len() < END {
                     return refusal(2, at);
                 }
-                if number(&part[2..4]) as usize != held || part.len() != 4 {
+                if number(&part[2..4]) as usize != held || part.len() != END {
                     return refusal(8, at);
                 }
                 return held as u64;
@@ -114,6 +86,11 @@ pub fn read(limits: &Limits, bytes: &[u8]) -> u64 {
         }
         held += 1;
     }
+}
+
+/// The length of the rule's record at the start of `part`, by its counts.
+pub fn record_size(part: &[u8]) -> usize {
+    rule_size(part[4..7].iter().map(|&count| count as usize).sum())
 }
 
 /// Where the record of a rule lies, from 1: its start and its length. The program is read, then its records are passed.
@@ -125,7 +102,7 @@ pub fn show(limits: &Limits, bytes: &[u8], rule: u32) -> u64 {
     if rule == 0 || u64::from(rule) > held {
         return refusal(13, 0);
     }
-    let size = |at: usize| 7 + 5 * bytes[at + 4..at + 7].iter().map(|&count| count as usize).sum::<usize>();
+    let size = |at: usize| record_size(&bytes[at..]);
     let start = (1..rule).fold(0, |at, _| at + size(at));
     ((start as u64) << 32) + size(start) as u64
 }

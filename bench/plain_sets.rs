@@ -1,8 +1,10 @@
 //! Sets, quotients, extension and restriction in plain safe Rust, the measure for the proved ones: the same refusals in the
 //! same order, the same bytes, the same word.
 
-use crate::plain_reader::{is_literal, number, read, refusal, Limits, PLAIN, SOURCE};
+use crate::limits::{Limits, PLAIN, SOURCE};
+use crate::plain_reader::{is_literal, number, read, refusal};
 use crate::plain_translator::{mark, Out};
+use crate::writer::{end_record, literal, rule_size, set_header, set_size, END, LITERAL, RULE_HEADER, SET_HEADER};
 
 /// A literal's five bytes as one number: the order of numbers is the order of byte strings.
 pub fn key(literal: &[u8]) -> u64 {
@@ -16,7 +18,7 @@ pub struct Set<'a> {
 
 impl Set<'_> {
     pub fn holds(&self, literal: &[u8]) -> bool {
-        self.bytes.as_chunks::<5>().0.binary_search_by(|held| key(held).cmp(&key(literal))).is_ok()
+        self.bytes.as_chunks::<LITERAL>().0.binary_search_by(|held| key(held).cmp(&key(literal))).is_ok()
     }
 
     fn defeats(&self, tag: &[u8], option: &[u8]) -> bool {
@@ -26,11 +28,11 @@ impl Set<'_> {
 
 /// The bytes of the set's literals, tested for mark, length and number, or the refusal.
 fn set_literals(most: usize, set: &[u8]) -> Result<&[u8], u64> {
-    let Some((header, bytes)) = set.split_at_checked(4) else {
+    let Some((header, bytes)) = set.split_at_checked(SET_HEADER) else {
         return Err(refusal(10, 0));
     };
     let count = number(&header[2..4]) as usize;
-    if header[..2] != *b"A:" || bytes.len() != 5 * count {
+    if header[..2] != *b"A:" || bytes.len() != LITERAL * count {
         return Err(refusal(10, 0));
     }
     if count > most {
@@ -43,10 +45,10 @@ fn set_literals(most: usize, set: &[u8]) -> Result<&[u8], u64> {
 pub fn read_set<'a>(limits: &Limits, most: usize, set: &'a [u8]) -> Result<Set<'a>, u64> {
     let bytes = set_literals(most, set)?;
     let mut last = 0;
-    for (i, literal) in bytes.chunks_exact(5).enumerate() {
+    for (i, literal) in bytes.chunks_exact(LITERAL).enumerate() {
         let key = key(literal);
         if !is_literal(limits, literal) || last >= key {
-            return Err(refusal(11, 4 + 5 * i));
+            return Err(refusal(11, set_size(i)));
         }
         last = key;
     }
@@ -55,11 +57,11 @@ pub fn read_set<'a>(limits: &Limits, most: usize, set: &'a [u8]) -> Result<Set<'
 
 /// A rule of a program that was read.
 pub struct Rule<'a> {
-    defeasible: bool,
-    tag: &'a [u8],
+    pub defeasible: bool,
+    pub tag: &'a [u8],
     heads: &'a [u8],
     pub positives: &'a [u8],
-    nafs: &'a [u8],
+    pub nafs: &'a [u8],
 }
 
 /// The rules of a program that was read, in order.
@@ -72,10 +74,10 @@ impl<'a> Iterator for Rules<'a> {
         if self.0[0] == b'E' {
             return None;
         }
-        let (header, rest) = self.0.split_at(7);
-        let (heads, rest) = rest.split_at(5 * header[4] as usize);
-        let (positives, rest) = rest.split_at(5 * header[5] as usize);
-        let (nafs, rest) = rest.split_at(5 * header[6] as usize);
+        let (header, rest) = self.0.split_at(RULE_HEADER);
+        let (heads, rest) = rest.split_at(LITERAL * header[4] as usize);
+        let (positives, rest) = rest.split_at(LITERAL * header[5] as usize);
+        let (nafs, rest) = rest.split_at(LITERAL * header[6] as usize);
         self.0 = rest;
         Some(Rule { defeasible: header[0] == b'D', tag: &header[2..4], heads, positives, nafs })
     }
@@ -83,16 +85,16 @@ impl<'a> Iterator for Rules<'a> {
 
 impl<'a> Rule<'a> {
     pub fn options(&self) -> impl Iterator<Item = &'a [u8]> {
-        self.heads.chunks_exact(5)
+        self.heads.chunks_exact(LITERAL)
     }
 
     /// Which heads the quotient leaves, a bit for each, or none if it removes the rule.
     pub fn left(&self, set: &Set) -> Option<u32> {
-        if self.nafs.chunks_exact(5).any(|naf| set.holds(naf)) {
+        if self.nafs.chunks_exact(LITERAL).any(|naf| set.holds(naf)) {
             return None;
         }
         if !self.defeasible {
-            return Some((1 << self.heads.len() / 5) - 1);
+            return Some((1 << self.heads.len() / LITERAL) - 1);
         }
         let mut left = 0;
         for (i, option) in self.options().enumerate() {
@@ -110,11 +112,11 @@ fn write_quotient(limits: &Limits, program: &[u8], set: &[u8], out: &mut [u8]) -
     let set = read_set(limits, limits.set, set)?;
     // What is left of each rule is searched for once, and kept for writing.
     let mut kept = Vec::with_capacity(held as usize);
-    let mut length = 4;
+    let mut length = END;
     for rule in Rules(program) {
         let left = rule.left(&set);
         if let Some(heads) = left {
-            length += 7 + 5 * heads.count_ones() as usize + rule.positives.len();
+            length += rule_size(heads.count_ones() as usize) + rule.positives.len();
         }
         kept.push(left);
     }
@@ -126,8 +128,8 @@ fn write_quotient(limits: &Limits, program: &[u8], set: &[u8], out: &mut [u8]) -
     for (rule, left) in Rules(program).zip(kept) {
         let Some(heads) = left else { continue };
         let count = heads.count_ones() as u8;
-        out.header(count, (rule.positives.len() / 5) as u8, 0);
-        if count as usize == rule.heads.len() / 5 {
+        out.header(count, (rule.positives.len() / LITERAL) as u8, 0);
+        if count as usize == rule.heads.len() / LITERAL {
             out.put(rule.heads);
         } else {
             for (_, option) in rule.options().enumerate().filter(|(i, _)| heads >> i & 1 == 1) {
@@ -137,8 +139,7 @@ fn write_quotient(limits: &Limits, program: &[u8], set: &[u8], out: &mut [u8]) -
         out.put(rule.positives);
         rules += 1;
     }
-    out.put(b"E:");
-    out.put(&rules.to_be_bytes());
+    out.put(&end_record(rules));
     Ok(length)
 }
 
@@ -159,8 +160,7 @@ fn added_marks(program: &[u8], set: &Set) -> Vec<u64> {
             }
         }
         if all_defeated {
-            let [high, low] = number.to_be_bytes();
-            marks.push(key(&[6, 0, 0, high, low]));
+            marks.push(key(&literal(6, 0, number)));
         }
     }
     marks.sort_unstable();
@@ -182,32 +182,31 @@ fn write_extension(program: &[u8], set: &[u8], out: &mut [u8]) -> Result<usize, 
 fn write_restriction(set: &[u8], out: &mut [u8]) -> Result<usize, u64> {
     let bytes = set_literals(PLAIN.set, set)?;
     let mut before = 0;
-    for (i, literal) in bytes.chunks_exact(5).enumerate() {
+    for (i, literal) in bytes.chunks_exact(LITERAL).enumerate() {
         let key = key(literal);
         if !is_literal(&PLAIN, literal) || key <= before {
-            return Err(refusal(11, 4 + 5 * i));
+            return Err(refusal(11, set_size(i)));
         }
         before = key;
     }
     // The kinds ascend, so what stays is the set's start.
-    let stay = bytes.as_chunks::<5>().0.partition_point(|literal| literal[0] < 4);
-    write_set(out, &bytes[..5 * stay], &[])
+    let stay = bytes.as_chunks::<LITERAL>().0.partition_point(|literal| literal[0] < 4);
+    write_set(out, &bytes[..LITERAL * stay], &[])
 }
 
 /// An A: record of these literals and of these marks behind them, all ascending.
 pub fn write_set(out: &mut [u8], literals: &[u8], marks: &[u64]) -> Result<usize, u64> {
-    let count = literals.len() / 5 + marks.len();
-    if out.len() < 4 + 5 * count {
+    let count = literals.len() / LITERAL + marks.len();
+    if out.len() < set_size(count) {
         return Err(refusal(9, 0));
     }
     let mut out = Out { bytes: out, to: 0 };
-    out.put(b"A:");
-    out.put(&(count as u16).to_be_bytes());
+    out.put(&set_header(count as u16));
     out.put(literals);
     for mark in marks {
         out.put(&mark.to_be_bytes()[3..]);
     }
-    Ok(4 + 5 * count)
+    Ok(set_size(count))
 }
 
 fn word(answer: Result<usize, u64>) -> u64 {

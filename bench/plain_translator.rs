@@ -1,11 +1,13 @@
 //! A careful translator in plain safe Rust, the measure for the proved one: read, measure, write; the same bytes, the same word.
 
-use crate::plain_reader::{read, refusal, SOURCE};
+use crate::limits::SOURCE;
+use crate::plain_reader::{read, refusal};
+use crate::writer::{end_record, literal, rule_header, rule_size, Literal, END, LITERAL, RULE_HEADER};
 
 /// The length of a record, of what its rule becomes, and the number of rules that it becomes.
 fn sizes(record: &[u8]) -> (usize, usize, usize) {
     let (h, b, c) = (record[4] as usize, record[5] as usize, record[6] as usize);
-    let size = 7 + 5 * (h + b + c);
+    let size = rule_size(h + b + c);
     if record[0] == b'D' {
         (size, 66 * h + 5 * (b + c) + 24, 3 * h + 2)
     } else {
@@ -26,22 +28,21 @@ impl Out<'_> {
     }
 
     pub fn header(&mut self, heads: u8, positives: u8, nafs: u8) {
-        self.put(&[b'S', b':', 0, 0, heads, positives, nafs]);
+        self.put(&rule_header(0, heads, positives, nafs));
     }
 }
 
 /// The five bytes of an option's mark: 2 and 3 are defeated, 4 and 5 derived.
-pub fn mark(first: u8, tag: &[u8], option: &[u8]) -> [u8; 5] {
+pub fn mark(first: u8, tag: &[u8], option: &[u8]) -> Literal {
     [first + option[0], tag[0], tag[1], option[3], option[4]]
 }
 
 fn write_defeasible(number: u16, record: &[u8], out: &mut Out) {
     let (h, b, c) = (record[4], record[5], record[6]);
     let tag = &record[2..4];
-    let (options, body) = record[7..].split_at(5 * h as usize);
-    let options = options.chunks_exact(5);
-    let [high, low] = number.to_be_bytes();
-    let rule_defeated = [6, 0, 0, high, low];
+    let (options, body) = record[RULE_HEADER..].split_at(LITERAL * h as usize);
+    let options = options.chunks_exact(LITERAL);
+    let rule_defeated = literal(6, 0, number);
     out.header(h, b, c + 1);
     for option in options.clone() {
         out.put(&mark(4, tag, option));
@@ -73,7 +74,7 @@ pub fn translate(source: &[u8], out: &mut [u8]) -> u64 {
     if word >> 63 == 1 {
         return word;
     }
-    let (mut at, mut length, mut made) = (0, 4, 0);
+    let (mut at, mut length, mut made) = (0, END, 0);
     while source[at] != b'E' {
         let (size, becomes, rules) = sizes(&source[at..]);
         at += size;
@@ -96,7 +97,6 @@ pub fn translate(source: &[u8], out: &mut [u8]) -> u64 {
         at += size;
         number += 1;
     }
-    out.put(b"E:");
-    out.put(&(made as u16).to_be_bytes());
+    out.put(&end_record(made as u16));
     length as u64
 }

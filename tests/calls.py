@@ -1,4 +1,4 @@
-"""What the program crates/calls writes, from the reference alone: crates/calls/stdout is this.
+"""What the program crates/aspda_calls writes, from the reference alone: its stdout is this.
 
     python3 tests/calls.py
 

@@ -9,6 +9,10 @@ trap 'rm -rf "$work"' EXIT
 cp "$root"/examples/m[13].* "$work"
 cd "$work"
 
+# The forms' figures that are tried here: literals of a part of a source's rule, rules and bytes of each form's longest program,
+# the last atom and tag, literals of a set that is checked.
+most_literals=16 rules=256 bytes=63236 plain_rules=12800 plain_bytes=317444 last_atom=500 last_tag=200 checked=64
+
 runs=0
 declare -A reached=()
 
@@ -168,36 +172,37 @@ gives "" convert --plain kit-plain.txt -o again.plain
 same again.plain kit.plain
 
 # The longest source and its translation, listed and read again.
-rule="tag 7: $(seq -s ' or ' 16) if $(seq -s ' and ' 16) and not $(seq -s ' and not ' 16)."
-for _ in {1..256}; do echo "$rule"; done >longest.txt
-gives "256 rules, 63236 bytes" read longest.txt
+rule="tag 7: $(seq -s ' or ' $most_literals) if $(seq -s ' and ' $most_literals) and not $(seq -s ' and not ' $most_literals)."
+for ((i = 0; i < rules; i++)); do echo "$rule"; done >longest.txt
+gives "$rules rules, $bytes bytes" read longest.txt
 gives "" translate longest.txt -o longest.plain
-gives "12800 rules, 317444 bytes" read --plain longest.plain
+gives "$plain_rules rules, $plain_bytes bytes" read --plain longest.plain
 gives "" convert --plain longest.plain -o longest-plain.txt
-[ "$(grep -c '% rule' longest-plain.txt)" = 12800 ] || fail "longest-plain.txt does not list 12,800 rules"
+[ "$(grep -c '% rule' longest-plain.txt)" = $plain_rules ] || fail "longest-plain.txt does not list $plain_rules rules"
 gives "" convert --plain longest-plain.txt -o again.plain
 same again.plain longest.plain
 
 # Each refusal by number and place, with rule and line where the program is text. 9 is a short buffer's, and the
 # command's are long enough: rust/aspda/tests/refusals.rs has it.
-head -c 63237 /dev/zero >long
+head -c $((bytes + 1)) /dev/zero >long
 refuses 1 0 long read long
 refuses 1 0 long translate long -o unwritten
-printf '1.%.0s' {1..5300} >long.txt
+for ((i = 0; i * 12 <= bytes; i++)); do printf '1.'; done >long.txt # 12 bytes for each rule
 refuses 1 0 long.txt read long.txt
 : >empty
 refuses 2 0 empty read empty
 refuses 3 0 m3.aspda convert --plain m3.aspda -o unwritten
 refuses 3 0 "m3.txt (rule 1, line 4)" read --plain m3.txt
-printf '1.\n%% two\n\n1 or%s 1.\n' "$(printf ' 1 or%.0s' {1..15})" >heads.txt
+printf '1.\n%% two\n\n%s.\n' "$(seq -s ' or ' $((most_literals + 1)))" >heads.txt
 refuses 4 12 "heads.txt (rule 2, line 4)" translate heads.txt -o unwritten
-printf '1.%.0s\n' {1..257} >rules.txt
-refuses 4 3072 "rules.txt (rule 257, line 257)" read rules.txt
-gives "257 rules, 3088 bytes" read --plain rules.txt
-printf '1. 2\nor 501.\n' >literal.txt
+more=$((rules + 1)) no_atom=$((last_atom + 1))
+for ((i = 0; i < more; i++)); do echo '1.'; done >rules.txt
+refuses 4 $((12 * rules)) "rules.txt (rule $more, line $more)" read rules.txt
+gives "$more rules, $((12 * more + 4)) bytes" read --plain rules.txt
+printf '1. 2\nor %s.\n' $no_atom >literal.txt
 refuses 5 24 "literal.txt (rule 2, line 1)" quotient literal.txt '{}'
-refuses 5 24 "literal.txt (rule 2, line 1)" extend literal.txt '{501}'
-echo 'tag 201: 1.' >tag.txt
+refuses 5 24 "literal.txt (rule 2, line 1)" extend literal.txt "{$no_atom}"
+echo "tag $((last_tag + 1)): 1." >tag.txt
 refuses 6 0 "tag.txt (rule 1, line 1)" show tag.txt 1
 printf '1.\ntag 1: never if 1.\n' >never.txt
 refuses 7 12 "never.txt (rule 2, line 2)" convert never.txt -o unwritten
@@ -206,15 +211,15 @@ refuses 8 0 end check end '{}'
 printf 'A:\0\1' >cut.set
 refuses 10 0 cut.set restrict cut.set
 refuses 10 0 cut.set convert cut.set -o unwritten
-refuses 11 9 "{1, 501} (501)" check m3.txt '{1, 501}'
+refuses 11 9 "{1, $no_atom} ($no_atom)" check m3.txt "{1, $no_atom}"
 refuses 11 4 "{derived(1, 1)} (derived(1, 1))" convert '{derived(1, 1)}' -o unwritten
 printf 'A:\0\2\0\0\0\0\2\0\0\0\0\1' >order.set
 refuses 11 9 order.set extend m3.aspda order.set
 refuses 11 19 "{30, 14, -servo_x, derived(drive_x, servo_x)} (derived(drive_x, servo_x))" \
     extend kit.txt '{30, 14, -servo_x, derived(drive_x, servo_x)}'
-echo "{$(seq -s , 65)}" >65.txt
-refuses 12 0 65.txt check --plain m3.plain 65.txt
-gives "" convert 65.txt -o 65.set
+echo "{$(seq -s , $((checked + 1)))}" >large.txt
+refuses 12 0 large.txt check --plain m3.plain large.txt
+gives "" convert large.txt -o large.set
 refuses 13 0 m3.txt show m3.txt 6
 refuses 13 0 m3.plain show --plain m3.plain 0
 [ ! -e unwritten ] || fail "a refusal wrote a file"

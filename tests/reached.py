@@ -8,7 +8,7 @@ A function is reached if it is a root, or if a function that is reached calls it
 - the exports, `pub extern "C" fn`;
 - `main` of each program, crates/NAME/src/main.rt;
 - the entry points for callers in Rattle: every path in backquotes in README.md that starts with a
-  crate of crates/, as `reading::read::read_source`. It has to be a public function; a path that is
+  crate of crates/, as `record_read::read::read_source`. It has to be a public function; a path that is
   a type's or a module's is passed over.
 
 A call is a name or a path with a bracket behind it, in a function's body; comments, contracts and
@@ -38,6 +38,9 @@ TOKEN = re.compile(r"""
   | (?P<number>\d\w*)
   | (?P<sign>::|\.\.|.)
 """, re.VERBOSE)
+
+# A crate and those that it stands on; the other lines of crates.txt are headings and comments.
+CRATE_LINE = re.compile(r"(\w+):((?: \w+)*)")
 
 # A path in backquotes; its last part may be a list in braces, and arguments may stand behind it.
 README_PATH = re.compile(r"`([a-z]\w*(?:::\w+)*)::(?:(\w+)|\{([^}`]*)\})(?:\([^`]*)?`")
@@ -282,12 +285,15 @@ class File:
 def listed_crates():
     """Our crates, which have a line of crates.txt, and the kit's, which are only named there."""
     text = (ROOT / "crates.txt").read_text(encoding="utf-8")
-    lines = [line.partition(":") for line in text.splitlines() if not line.startswith("#")]
-    ours = {name for name, _, _ in lines}
+    found = [CRATE_LINE.fullmatch(line) for line in text.splitlines()
+             if line and not line.startswith("#")]
+    if None in found or len({line[1] for line in found}) != len(found):
+        raise NotUnderstood("crates.txt: a line that is no crate's, or two of one crate")
+    ours = {line[1] for line in found}
     folders = {path.name for path in (ROOT / "crates").iterdir()}
     if ours != folders:
         raise NotUnderstood(f"crates.txt and crates/ differ in {sorted(ours ^ folders)}")
-    return ours, {name for _, _, names in lines for name in names.split()} - ours
+    return ours, {name for line in found for name in line[2].split()} - ours
 
 
 def files_of(crate):

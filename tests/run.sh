@@ -1,7 +1,7 @@
 #!/bin/sh
-# Everything that runs: functions that nothing reaches, the reference's self-test, the lines of crates/calls, the vectors, the runner
-# against the library, the short form of tests/reliability, the crate, the command, the worked examples. Needs python3, rustc, cargo,
-# a C and a C++ compiler, clingo, target/staticlib/libaspda.a (rt staticlib aspda) and target/bin/filter (rt check filter).
+# Everything that runs: functions that nothing reaches, the reference's self-test, the lines of crates/aspda_calls, the vectors, the
+# runner against the library, the short form of tests/reliability, the crate, the command, the worked examples. Needs python3, rustc,
+# cargo, a C and a C++ compiler, clingo, target/staticlib/libaspda.a (rt staticlib aspda) and target/bin/filter (rt check filter).
 
 set -eu
 cd "$(dirname "$0")/.."
@@ -30,8 +30,8 @@ beside=$!
 say "self-test of the reference"
 python3 tests/reference/selftest.py
 
-say "what the program calls writes, from the reference"
-python3 tests/calls.py | cmp - crates/calls/stdout
+say "what the program aspda_calls writes, from the reference"
+python3 tests/calls.py | cmp - crates/aspda_calls/stdout
 
 say "vectors"
 python3 tests/vectors.py "$build/vectors"

@@ -9,9 +9,9 @@ from functools import lru_cache
 from itertools import combinations, product
 from typing import Callable, NamedTuple, Optional
 
-from aspda import (DEFEASIBLE, PLAIN, SOURCE, STRICT, Literal, atom, defeated, derived,
-                   encoded_literals, encoded_program, encoded_rule, negated,
-                   rule_defeated, strict)
+from aspda import (DEFEASIBLE, LAST_ATOM, LAST_NUMBERED_RULE, LAST_TAG, PLAIN, SOURCE, STRICT,
+                   Literal, atom, defeated, derived, encoded_literals, encoded_program,
+                   encoded_rule, negated, rule_defeated, strict)
 from cases.operations import ACCEPTED
 from cases.slices import Slice, whole
 
@@ -98,7 +98,7 @@ def mark_faults(form):
 
 
 def tag_faults(mark):
-    wrong = (0, 201, 256, 65_535) if mark == DEFEASIBLE else (1, 7, 200, 256)
+    wrong = (0, LAST_TAG + 1, 256, 65_535) if mark == DEFEASIBLE else (1, 7, LAST_TAG, 256)
     return [setting(f"tag-{tag}", TAG, "tag", tag) for tag in wrong]
 
 
@@ -118,22 +118,26 @@ NO_LITERAL = Literal(9, 9, 9)   # wrong in each field, in either form
 
 
 def wrong_literals(form):
+    no_atom, no_tag, no_rule = LAST_ATOM + 1, LAST_TAG + 1, LAST_NUMBERED_RULE + 1
     wrong = {
-        "atom-0": atom(0), "atom-501": atom(501), "atom-65535": atom(65_535),
+        "atom-0": atom(0), f"atom-{no_atom}": atom(no_atom), "atom-65535": atom(65_535),
         "atom-with-tag-1": Literal(0, 1, 1), "atom-with-tag-256": Literal(0, 256, 1),
-        "negated-0": negated(0), "negated-501": negated(501),
+        "negated-0": negated(0), f"negated-{no_atom}": negated(no_atom),
         "negated-with-tag-7": Literal(1, 7, 1),
-        "defeated-tag-0": defeated(0, atom(1)), "defeated-tag-201": defeated(201, atom(1)),
-        "defeated-atom-0": defeated(7, atom(0)), "defeated-atom-501": defeated(7, negated(501)),
+        "defeated-tag-0": defeated(0, atom(1)), f"defeated-tag-{no_tag}": defeated(no_tag, atom(1)),
+        "defeated-atom-0": defeated(7, atom(0)),
+        f"defeated-atom-{no_atom}": defeated(7, negated(no_atom)),
         "kind-7": Literal(7, 0, 1), "kind-255": Literal(255, 255, 1),
     }
     if form is SOURCE:
         wrong |= {"kind-4": derived(7, atom(1)), "kind-5": derived(7, negated(1)),
                   "kind-6": rule_defeated(1)}
     else:
-        wrong |= {"derived-tag-0": derived(0, atom(1)), "derived-tag-201": derived(201, negated(1)),
-                  "derived-atom-501": derived(200, atom(501)), "rule-0": rule_defeated(0),
-                  "rule-257": rule_defeated(257), "rule-with-tag-1": Literal(6, 1, 1)}
+        wrong |= {"derived-tag-0": derived(0, atom(1)),
+                  f"derived-tag-{no_tag}": derived(no_tag, negated(1)),
+                  f"derived-atom-{no_atom}": derived(LAST_TAG, atom(no_atom)),
+                  "rule-0": rule_defeated(0), f"rule-{no_rule}": rule_defeated(no_rule),
+                  "rule-with-tag-1": Literal(6, 1, 1)}
     return wrong
 
 

@@ -3,13 +3,16 @@
 from functools import lru_cache
 from typing import NamedTuple
 
-from aspda import (SOURCE, Literal, atom, defeated, derived, encoded_literals, encoded_set,
-                   is_of_form, negated, rule_defeated)
+from aspda import (ATOMS, CHECKED_LITERALS, LAST_ATOM, LAST_NUMBERED_RULE, LAST_TAG, NUMBERED_RULES,
+                   PLAIN, SOURCE, TAGS, Literal, atom, defeated, derived, encoded_literals,
+                   encoded_set, is_of_form, negated, rule_defeated)
 from cases import faults
 from cases.operations import ACCEPTED
 from cases.slices import Slice, whole
 
-SIZES = (0, 1, 2, 10, 63, 64, 65, 999, 1_000, 1_001, 5_351, 5_352, 5_353)
+# Few literals, and around each limit of a set.
+LIMITS = (CHECKED_LITERALS, SOURCE.set_literals, PLAIN.set_literals)
+SIZES = (0, 1, 2, 10, *(limit + step for limit in LIMITS for step in (-1, 0, 1)))
 
 
 class SetCase(NamedTuple):
@@ -45,9 +48,9 @@ def spread(form, size):
 def numbered_literal(kind, number):
     """The literals of a kind in a row, atoms fastest, starting again behind the last."""
     if kind == 6:
-        return rule_defeated(1 + number % 256)
-    tag = 1 + number // 500 % 200 if kind >= 2 else 0
-    return Literal(kind, tag, 1 + number % 500)
+        return rule_defeated(NUMBERED_RULES[number % LAST_NUMBERED_RULE])
+    tag = TAGS[number // LAST_ATOM % LAST_TAG] if kind >= 2 else 0
+    return Literal(kind, tag, ATOMS[number % LAST_ATOM])
 
 
 @lru_cache(maxsize=None)
@@ -58,9 +61,10 @@ def spread_set(form, size):
 def few(form):
     """Five literals of different kinds, ascending."""
     if form is SOURCE:
-        return [atom(1), atom(500), negated(256), defeated(7, atom(2)), defeated(200, negated(1))]
-    return [atom(500), negated(1), defeated(200, atom(3)), derived(1, atom(256)),
-            rule_defeated(256)]
+        return [atom(1), atom(LAST_ATOM), negated(256), defeated(7, atom(2)),
+                defeated(LAST_TAG, negated(1))]
+    return [atom(LAST_ATOM), negated(1), defeated(LAST_TAG, atom(3)), derived(1, atom(256)),
+            rule_defeated(LAST_NUMBERED_RULE)]
 
 
 def neighbours(form, literal):
@@ -117,9 +121,9 @@ def wrong_literals(form, most):
     yield SetCase("set-atoms-256-1", raw_set([atom(256), atom(1)]), (11, 9))
     yield SetCase("set-atoms-255-256", raw_set([atom(255), atom(256)]), ACCEPTED)
     yield SetCase("set-tag-before-atom",
-                  raw_set([defeated(1, atom(500)), defeated(2, atom(1))]), ACCEPTED)
+                  raw_set([defeated(1, atom(LAST_ATOM)), defeated(2, atom(1))]), ACCEPTED)
     yield SetCase("set-kind-before-tag",
-                  raw_set([defeated(200, atom(500)), defeated(1, negated(1))]), ACCEPTED)
+                  raw_set([defeated(LAST_TAG, atom(LAST_ATOM)), defeated(1, negated(1))]), ACCEPTED)
     yield from late_wrong_literals(form, most)
 
 

@@ -3,8 +3,10 @@
 from functools import lru_cache
 
 import samples
-from aspda import (SOURCE, Literal, atom, defeasible, defeated, derived,
-                   encoded_program, negated, read, rule_defeated, strict, translation)
+from aspda import (ATOMS, END_RECORD, LAST_ATOM, LAST_NUMBERED_RULE, LAST_TAG, LITERAL,
+                   NUMBERED_RULES, PLAIN, RULE_HEADER, SOURCE, TAGS, Literal, atom, defeasible,
+                   defeated, derived, encoded_program, negated, read, rule_defeated, strict,
+                   translation)
 from cases import faults
 from cases.faults import ProgramCase, encoded_rules, end_record
 from cases.operations import ACCEPTED
@@ -18,6 +20,11 @@ def program(rules):
     return whole(encoded_program(rules))
 
 
+def rule_size(literals):
+    """The length of a rule's record with so many literals."""
+    return RULE_HEADER.size + LITERAL.size * literals
+
+
 def is_heavy(form, case):
     return HEAVY < len(case.program) <= form.length
 
@@ -28,31 +35,36 @@ def is_heavy(form, case):
 
 def mixed_source():
     return [
-        defeasible(200, [atom(1), negated(500), atom(1)], [defeated(1, negated(7))], [atom(256)]),
+        defeasible(LAST_TAG, [atom(1), negated(LAST_ATOM), atom(1)], [defeated(1, negated(7))],
+                   [atom(256)]),
         strict(),
-        strict([defeated(200, atom(1)), negated(3)], [], [defeated(200, negated(500)), negated(1)]),
+        strict([defeated(LAST_TAG, atom(1)), negated(3)], [],
+               [defeated(LAST_TAG, negated(LAST_ATOM)), negated(1)]),
         defeasible(1, [negated(7)]),
-        strict([], [atom(500), negated(256)]),
+        strict([], [atom(LAST_ATOM), negated(256)]),
     ]
 
 
 def mixed_plain():
     return [
-        strict([derived(200, atom(1)), rule_defeated(256)], [derived(1, negated(500))],
+        strict([derived(LAST_TAG, atom(1)), rule_defeated(LAST_NUMBERED_RULE)],
+               [derived(1, negated(LAST_ATOM))],
                [rule_defeated(1), defeated(7, atom(256))]),
         strict(),
-        strict([atom(500)], [negated(1), rule_defeated(200)], [derived(200, negated(256))]),
+        strict([atom(LAST_ATOM)], [negated(1), rule_defeated(200)],
+               [derived(LAST_TAG, negated(256))]),
         strict([], [defeated(1, negated(1))]),
     ]
 
 
 def wide_rule(form):
     """One rule with every count at its limit and no literal twice."""
-    options = [(negated if place % 3 == 0 else atom)(240 + place) for place in range(16)]
-    bodies = [defeated(1 + place, atom(256)) for place in range(16)]
+    options = [(negated if place % 3 == 0 else atom)(240 + place) for place in range(form.heads)]
+    bodies = [defeated(1 + place, atom(256)) for place in range(form.positives)]
     if form is SOURCE:
-        return [defeasible(200, options, bodies, [negated(485 + place) for place in range(16)])]
-    return [strict(options, bodies, [derived(184 + place, negated(500)) for place in range(17)])]
+        return [defeasible(LAST_TAG, options, bodies, list(map(negated, ATOMS[-form.nafs:])))]
+    nafs = [derived(tag, negated(LAST_ATOM)) for tag in TAGS[-form.nafs:]]
+    return [strict(options, bodies, nafs)]
 
 
 def small_samples(form):
@@ -65,25 +77,30 @@ def small_samples(form):
 
 
 def longest_source_rules():
-    """256 rules with every count at its limit; each tag with each head only once."""
+    """All rules, with every count at its limit; each tag with each head only once."""
     rules = []
-    for number in range(256):
-        options = [(negated if (number + place) % 3 == 0 else atom)(1 + (31 * number + place) % 500)
-                   for place in range(16)]
-        bodies = [defeated(1 + place, atom(1 + number)) for place in range(16)]
-        nafs = [atom(485 + place) for place in range(16)]
-        rules.append(defeasible(1 + number % 200, options, bodies, nafs))
+    for number in range(SOURCE.rules):
+        options = [(negated if (number + place) % 3 == 0 else atom)(
+                       ATOMS[(31 * number + place) % LAST_ATOM]) for place in range(SOURCE.heads)]
+        bodies = [defeated(1 + place, atom(1 + number)) for place in range(SOURCE.positives)]
+        nafs = [atom(last) for last in ATOMS[-SOURCE.nafs:]]
+        rules.append(defeasible(TAGS[number % LAST_TAG], options, bodies, nafs))
     return rules
 
 
 def longest_plain_rules():
-    """1,280 rules of 48 or 49 literals: as long as the longest translation, with other counts."""
+    """As long as the longest translation, with a tenth of its rules: every count at its limit, but
+    one naf literal fewer in all but the first rules."""
     literals = list(samples.all_literals((0, 1, 6)))
+    body = PLAIN.heads + PLAIN.positives
+    most = body + PLAIN.nafs
+    count = PLAIN.rules // 10
+    full = (PLAIN.length - END_RECORD.size - count * rule_size(most - 1)) // LITERAL.size
     rules = []
-    for number in range(1_280):
-        picked = [literals[(7 * number + 13 * place) % len(literals)] for place in range(49)]
-        nafs = picked[32:] if number < 256 else picked[32:48]
-        rules.append(strict(picked[:16], picked[16:32], nafs))
+    for number in range(count):
+        picked = [literals[(7 * number + 13 * place) % len(literals)] for place in range(most)]
+        nafs = picked[body:] if number < full else picked[body:-1]
+        rules.append(strict(picked[:PLAIN.heads], picked[PLAIN.heads:body], nafs))
     return rules
 
 
@@ -105,7 +122,7 @@ def one_rule(name, rule, stated=ACCEPTED):
 
 
 def rule_counts(form):
-    for count in (0, 1, 2, 255, 256, form.rules):
+    for count in (0, 1, 2, 255, SOURCE.rules, form.rules):
         yield ProgramCase(f"rules-{count}", program([strict()] * count), ACCEPTED)
     full = program([strict()] * (form.rules + 1))
     place = 7 * form.rules
@@ -139,12 +156,13 @@ def number_limits(form):
     for kind in range(0, 8):
         wrong_kind = kind not in form.kinds
         is_mark, is_rule = kind in (2, 3, 4, 5), kind == 6
-        for number in (0, 1, 256, 257, 500, 501, 65_535):
-            fits = 1 <= number <= (256 if is_rule else 500) and not wrong_kind
+        for number in (0, 1, LAST_NUMBERED_RULE, LAST_NUMBERED_RULE + 1, LAST_ATOM, LAST_ATOM + 1,
+                       65_535):
+            fits = number in (NUMBERED_RULES if is_rule else ATOMS) and not wrong_kind
             yield from in_places(form, f"kind-{kind}-atom-{number}",
                                  Literal(kind, 7 if is_mark else 0, number), fits)
-        for tag in (0, 1, 200, 201, 256, 65_535):
-            fits = (1 <= tag <= 200 if is_mark else tag == 0) and not wrong_kind
+        for tag in (0, 1, LAST_TAG, LAST_TAG + 1, 256, 65_535):
+            fits = (tag in TAGS if is_mark else tag == 0) and not wrong_kind
             yield from in_places(form, f"kind-{kind}-tag-{tag}", Literal(kind, tag, 1), fits)
 
 
@@ -161,16 +179,16 @@ def in_places(form, name, literal, fits):
 
 def rule_tags(form):
     record = bytearray(encoded_program([strict()]))
-    for tag in (0, 1, 200, 201, 256, 65_535):
+    for tag in (0, 1, LAST_TAG, LAST_TAG + 1, 256, 65_535):
         record[2:4] = tag.to_bytes(2, "big")
         yield ProgramCase(f"strict-tag-{tag}", whole(bytes(record)),
                           ACCEPTED if tag == 0 else (6, 0))
     if form is SOURCE:
         record = bytearray(encoded_program([defeasible(1, [atom(1)])]))
-        for tag in (0, 1, 2, 199, 200, 201, 256, 65_535):
+        for tag in (0, 1, 2, LAST_TAG - 1, LAST_TAG, LAST_TAG + 1, 256, 65_535):
             record[2:4] = tag.to_bytes(2, "big")
             yield ProgramCase(f"defeasible-tag-{tag}", whole(bytes(record)),
-                              ACCEPTED if 1 <= tag <= 200 else (6, 0))
+                              ACCEPTED if tag in TAGS else (6, 0))
 
 
 def lengths(form):
@@ -258,10 +276,11 @@ def wrong_counts(form):
         for number, start in enumerate(starts(form, sample.data)[:-1], start=1):
             for at in (start + 4, start + 5, start + 6):
                 count = sample.data[at]
-                for other in {0, count + 1, max(count - 1, 0), 16, 17, 18, 255} - {count}:
+                beyond = {PLAIN.heads, PLAIN.nafs, PLAIN.nafs + 1, 255}
+                for other in {0, count + 1, max(count - 1, 0), *beyond} - {count}:
                     yield ProgramCase(f"{name}-rule-{number}-count-{at - start}-is-{other}",
                                       sample.patched(at, bytes((other,))))
-        for other in (0, 1, 255, 256, 12_800, 65_535):
+        for other in (0, 1, 255, SOURCE.rules, PLAIN.rules, 65_535):
             yield ProgramCase(f"{name}-end-says-{other}",
                               sample.patched(len(sample) - 2, other.to_bytes(2, "big")))
 
@@ -283,7 +302,7 @@ def record_shuffles(form):
 # Random programs, and random faults
 
 
-SIZES = (0, 1, 2, 3, 4, 5, 8, 12, 20, 40, 100, 255, 256)
+SIZES = (0, 1, 2, 3, 4, 5, 8, 12, 20, 40, 100, SOURCE.rules - 1, SOURCE.rules)
 
 
 def random_rules(form, rng, shape):

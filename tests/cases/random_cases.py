@@ -3,7 +3,7 @@
 import random
 
 import samples
-from aspda import SOURCE, answer_sets
+from aspda import CHECKED_LITERALS, SOURCE, answer_sets
 from cases import programs, suites, verdicts
 from cases.literal_sets import literal_set
 from cases.operations import Case
@@ -45,13 +45,13 @@ def random_set(operation, rng, rules):
             found = answer_sets(rules, literals)
             if found:
                 return rng.choice(found)
-        return samples.random_subset(rng, literals, rng.choice((3, 8, 12, 64)))
+        return samples.random_subset(rng, literals, rng.choice((3, 8, 12, CHECKED_LITERALS)))
     return samples.random_subset(rng, literals, operation.set_limit())
 
 
 def planted_case(operation, rng):
-    size = rng.randint(3, 64)
-    rules = rng.randint(size, min(4 * size, 256))
+    size = rng.randint(3, CHECKED_LITERALS)
+    rules = rng.randint(size, min(4 * size, SOURCE.rules))
     proposal = verdicts.planted(operation.form, rng, size, rules)
     return Case("", operation, programs.program(proposal.rules), literal_set(proposal.literals))
 

@@ -10,8 +10,9 @@ from functools import lru_cache
 from itertools import islice, product
 
 import samples
-from aspda import (CHECKED_LITERALS, PLAIN, SOURCE, atom, defeasible, defeated, negated, strict,
-                   translation)
+from aspda import (ATOMS, CHECKED_LITERALS, END_RECORD, FILTER_OUTPUT, LAST_ATOM, LAST_TAG, LITERAL,
+                   PLAIN, RULE_HEADER, SOURCE, TIMES_LONGER, atom, defeasible, defeated, negated,
+                   strict, translation)
 from cases import faults, literal_sets, programs, verdicts
 from cases.literal_sets import literal_set
 from cases.operations import ACCEPTED, Case, call
@@ -23,6 +24,9 @@ PER_REFUSAL = 24
 FAR_RULE = 2**32 - 1
 
 LARGEST_RESULT = PLAIN.length
+# What a rule with every count at its limit becomes, by the document's sum; so many fit the filter.
+WIDEST = 66 * SOURCE.heads + 5 * (SOURCE.positives + SOURCE.nafs) + 24
+WIDEST_THAT_FIT = (FILTER_OUTPUT - END_RECORD.size) // WIDEST
 LARGE_RESULT = 10_000   # such results take the reference long: they get fewer buffers
 
 
@@ -49,7 +53,8 @@ def ample(case):
     """A case with room for whatever its operation writes."""
     if not case.operation.writes:
         return case
-    return case._replace(room=min(13 * len(case.program) + len(case.literals) + 8, LARGEST_RESULT))
+    most = TIMES_LONGER * len(case.program) + len(case.literals) + 8
+    return case._replace(room=min(most, LARGEST_RESULT))
 
 
 def needed_room(case):
@@ -180,7 +185,7 @@ def fed_sets(operation, rng):
 def sized_sets(operation):
     """Sets of no, one and many literals in several buffers, and one literal too many in any."""
     most = operation.set_limit()
-    for size in sorted({0, 1, 1_000, 1_001, most}):
+    for size in sorted({0, 1, SOURCE.set_literals, SOURCE.set_literals + 1, most}):
         if size <= most:
             yield from with_rooms(Case(f"set-of-{size}", operation, small_program(operation),
                                        set_of(operation, size)))
@@ -284,7 +289,7 @@ def translations(operation, rng):
     stock = {"m1": samples.M1, "m3": samples.M3, "m4": samples.M4, "m5": samples.M5,
              "m6": samples.M6, "m8": samples.M8, "empty": [], "mixed": programs.mixed_source(),
              "repeated-head": [defeasible(9, [atom(3), atom(3), negated(3)], [atom(3)], [atom(3)])],
-             "rule-256": [strict()] * 255 + [defeasible(1, [atom(1)])],
+             f"rule-{SOURCE.rules}": [strict()] * (SOURCE.rules - 1) + [defeasible(1, [atom(1)])],
              "widest-rule": programs.longest_source_rules()[:1],
              "longest": programs.longest_source_rules()}
     for name, rules in stock.items():
@@ -292,32 +297,32 @@ def translations(operation, rng):
 
 
 def filtered(operation, rng):
-    """Around the filter's own buffer of 65,536 bytes, and beyond its input buffer."""
+    """Around the size of the filter's own buffer, and beyond its input buffer."""
     for name, rules in (("m1", samples.M1), ("m3", samples.M3), ("empty", [])):
         yield Case(name, operation, programs.program(rules), stated=ACCEPTED)
     wide = programs.longest_source_rules()
-    for count in (52, 53, 60, 61, 256):
+    for count in (WIDEST_THAT_FIT, WIDEST_THAT_FIT + 1, 60, 61, SOURCE.rules):
         yield Case(f"widest-rules-{count}", operation, programs.program(wide[:count]),
-                   stated=ACCEPTED if 1_240 * count + 4 <= 65_536 else (9, 0))
+                   stated=ACCEPTED if count <= WIDEST_THAT_FIT else (9, 0))
     yield from near_filter_output(operation)
     longest = programs.longest_of(SOURCE)
     yield Case("far-too-long", operation, longest + longest + longest, stated=(1, 0))
 
 
 def near_filter_output(operation):
-    """Translations that just fit: 52 widest rules, and strict rules for the rest."""
-    wide = programs.longest_source_rules()[:52]
-    for length in range(65_532, 65_541):
-        rules = strict_rules_of_length(length - (1_240 * 52 + 4))
+    """Translations that just fit: widest rules, and strict rules for the rest."""
+    wide = programs.longest_source_rules()[:WIDEST_THAT_FIT]
+    for length in range(FILTER_OUTPUT - 4, FILTER_OUTPUT + 5):
+        rules = strict_rules_of_length(length - WIDEST * WIDEST_THAT_FIT - END_RECORD.size)
         yield Case(f"translation-of-{length}", operation, programs.program(wide + rules),
-                   stated=ACCEPTED if length <= 65_536 else (9, 0))
+                   stated=ACCEPTED if length <= FILTER_OUTPUT else (9, 0))
 
 
 def strict_rules_of_length(length):
     """Strict rules whose records have this length together."""
     for count in range(1, 200):
-        literals, odd = divmod(length - 7 * count, 5)
-        if odd == 0 and 0 <= literals <= 16 * count:
+        literals, odd = divmod(length - RULE_HEADER.size * count, LITERAL.size)
+        if odd == 0 and 0 <= literals <= SOURCE.heads * count:
             shares = [literals // count + (number < literals % count) for number in range(count)]
             return [strict([atom(1)] * share) for share in shares]
     raise ValueError(f"no strict rules have {length} bytes")
@@ -360,7 +365,7 @@ def large_quotients(operation, rng):
         yield from with_rooms(Case(f"{name}-many", operation, program, many))
     if operation.form is SOURCE:
         wide = programs.longest_source_rules()
-        for share in (3, 16):
+        for share in (3, SOURCE.heads):
             marks = {defeated(rule.tag, head) for rule in wide[:62] for head in rule.heads[:share]}
             yield ample(Case(f"longest-{share}-heads-defeated", operation, programs.program(wide),
                              literal_set(marks)))
@@ -395,31 +400,34 @@ def single_defeats(operation, name, rules):
 
 
 def large_extensions(rng):
-    """All options hold: 4,096 derivation marks; all rules defeated; marks met many times."""
-    options = [atom(number) for number in range(1, 501)]
-    options += [negated(number) for number in range(1, 501)]
+    """All options hold: as many derivation marks; all rules defeated; marks met many times."""
+    options = [*map(atom, ATOMS), *map(negated, ATOMS)]
     wide = programs.longest_source_rules()
     yield "all-options", wide, options
     shuffled = rng.sample(wide, len(wide))
     yield "all-options-shuffled", shuffled, options
-    single = [defeasible(200 - number % 200, [negated(500 - number)]) for number in range(256)]
+    most = SOURCE.rules
+    single = [defeasible(LAST_TAG - number % LAST_TAG, [negated(LAST_ATOM - number)])
+              for number in range(most)]
     yield "all-rules-defeated", single, {defeated(rule.tag, rule.heads[0]) for rule in single}
-    yield "one-mark-256-times", [defeasible(1, [atom(1)] * 16)] * 256, [atom(1)]
+    same = defeasible(1, [atom(1)] * SOURCE.heads)
+    yield f"one-mark-{most}-times", [same] * most, [atom(1)]
     half = {defeated(rule.tag, head) for rule in wide[:40] for head in rule.heads[::2]}
     yield "half-defeated", wide, set(options[:600]) | half
 
 
 def restrictions(operation, rng):
     kinds = [set(samples.all_literals((kind,))) for kind in (0, 1, 6)]
+    most = PLAIN.set_literals
     stock = {"empty": set(), "only-atoms": kinds[0], "only-rules": kinds[2],
              "atoms-and-rules": kinds[0] | kinds[1] | kinds[2],
-             "spread-5352": literal_sets.spread(PLAIN, 5_352),
-             "no-kinds-above-3": set(islice(samples.all_literals((2, 3)), 5_352)),
-             "only-derived": set(islice(samples.all_literals((4, 5)), 99_000, 104_352)),
+             f"spread-{most}": literal_sets.spread(PLAIN, most),
+             "no-kinds-above-3": set(islice(samples.all_literals((2, 3)), most)),
+             "only-derived": set(islice(samples.all_literals((4, 5)), 99_000, 99_000 + most)),
              "one-of-each": set(literal_sets.few(PLAIN))}
     for name, chosen in stock.items():
         yield from with_rooms(Case(name, operation, NOTHING, literal_set(chosen)))
-    everything = sorted(stock["spread-5352"])
+    everything = sorted(literal_sets.spread(PLAIN, most))
     for run in range(60):
         chosen = rng.sample(everything, rng.randint(0, 40))
         yield from with_rooms(Case(f"random-{run}", operation, NOTHING, literal_set(chosen)))

@@ -1,9 +1,10 @@
-"""Programs with proposed sets for the check: every verdict, few literals and up to 64."""
+"""Programs with proposed sets for the check: every verdict, from few literals to the most."""
 
 from typing import NamedTuple
 
 import samples
-from aspda import (PLAIN, SOURCE, answer_sets, atom, defeasible, defeated, derived, negated,
+from aspda import (BRUTE_FORCE_LITERALS, CHECKED_LITERALS, LAST_ATOM, LAST_NUMBERED_RULE, LAST_TAG,
+                   PLAIN, SOURCE, answer_sets, atom, defeasible, defeated, derived, negated,
                    rule_defeated, strict)
 
 
@@ -18,10 +19,11 @@ class Proposal(NamedTuple):
 
 def stock(form, count):
     """So many literals without opposites, of all the form's kinds, ascending."""
-    marks = [defeated(3, atom(number)) for number in (1, 300, 500)]
-    marks += [defeated(200, negated(number)) for number in (7, 8)]
+    marks = [defeated(3, atom(number)) for number in (1, 300, LAST_ATOM)]
+    marks += [defeated(LAST_TAG, negated(number)) for number in (7, 8)]
     if form is PLAIN:
-        marks += [derived(1, atom(9)), derived(2, negated(9)), rule_defeated(1), rule_defeated(256)]
+        marks += [derived(1, atom(9)), derived(2, negated(9)), rule_defeated(1),
+                  rule_defeated(LAST_NUMBERED_RULE)]
     marks = marks[:count // 3]
     options = [(negated if number % 4 == 0 else atom)(number)
                for number in range(1, count - len(marks) + 1)]
@@ -48,9 +50,10 @@ def choices(form, size):
     pairs = [strict(pair) for pair in zip(firsts, seconds)]
     yield Proposal(f"pairs-{size}", pairs, set(literals), "smaller")
     yield Proposal(f"pairs-{size}-chosen", pairs, set(firsts), "yes")
-    yield Proposal(f"one-of-{size}", [strict(literals[:16])], set(literals[:1]), "yes")
+    one_of = strict(literals[:form.heads])
+    yield Proposal(f"one-of-{size}", [one_of], set(literals[:1]), "yes")
     ring = [strict([after], [before]) for before, after in zip(literals, literals[1:] + literals)]
-    yield Proposal(f"ring-{size}-from-any", ring + [strict(literals[:16])], set(literals), "yes")
+    yield Proposal(f"ring-{size}-from-any", ring + [one_of], set(literals), "yes")
     half = size // 2
     rings = ring[:half - 1] + [strict([literals[0]], [literals[half - 1]])]
     yield Proposal(f"half-ring-{size}", rings + [strict(literals[:2])], set(literals), "smaller")
@@ -60,11 +63,11 @@ def late_failures(form, size):
     """A model of all rules but one, and clashes at every position."""
     literals = stock(form, size)
     facts = [strict([literal]) for literal in literals]
-    never = strict([], literals[:16])
+    never = strict([], literals[:form.positives])
     yield Proposal(f"facts-{size}", facts, set(literals), "yes")
     yield Proposal(f"facts-{size}-and-constraint", facts + [never], set(literals), "broken")
     yield Proposal(f"facts-{size}-and-constraint-not-met",
-                   facts + [strict([], [atom(499)])], set(literals), "yes")
+                   facts + [strict([], [atom(LAST_ATOM - 1)])], set(literals), "yes")
     for literal in literals:
         if literal.kind < 2 and size <= 24:
             both = set(literals[:size - 1]) | {literal, literal._replace(kind=1 - literal.kind)}
@@ -109,21 +112,23 @@ def planted(form, rng, size, rules):
 
 
 def planted_cases(form, rng):
-    for size in (4, 8, 12, 20, 32, 48, 64):
+    for size in (4, 8, 12, 20, 32, 48, CHECKED_LITERALS):
         for density in (1, 2, 3, 4, 6, 8):
             if size * density <= form.rules:
                 yield planted(form, rng, size, size * density)
 
 
 def many_rules(rng):
-    """The plain form's largest number of rules, over 64 literals."""
-    literals = stock(PLAIN, 64)
+    """The plain form's largest number of rules, over the most literals that are checked."""
+    most, size = PLAIN.rules, CHECKED_LITERALS
+    literals = stock(PLAIN, size)
     facts = [strict([rng.choice(literals), rng.choice(literals)]) for _ in range(200)]
-    links = [strict([rng.choice(literals)], rng.sample(literals, 2)) for _ in range(12_599)]
-    yield Proposal("rules-12800-over-64", facts + links + [strict()], set(literals), "broken")
-    yield Proposal("rules-12799-over-64", facts + links, set(literals))
-    weak = [strict([literal], [literal]) for literal in literals] * 200
-    yield Proposal("rules-12800-that-always-hold", weak, set(literals), "smaller")
+    links = [strict([rng.choice(literals)], rng.sample(literals, 2))
+             for _ in range(most - 1 - len(facts))]
+    yield Proposal(f"rules-{most}-over-{size}", facts + links + [strict()], set(literals), "broken")
+    yield Proposal(f"rules-{most - 1}-over-{size}", facts + links, set(literals))
+    weak = [strict([literal], [literal]) for literal in literals] * (most // size)
+    yield Proposal(f"rules-{most}-that-always-hold", weak, set(literals), "smaller")
 
 
 def random_proposals(form, rng, count):
@@ -139,11 +144,11 @@ def random_proposals(form, rng, count):
 
 
 def proposals(form, rng):
-    for size in (2, 3, 5, 12, 17, 40, 63, 64):
+    for size in (2, 3, 5, 12, 17, 40, CHECKED_LITERALS - 1, CHECKED_LITERALS):
         yield from chain(form, size)
         yield from choices(form, size)
         yield from late_failures(form, size)
-    yield next(chain(form, 16))     # the largest that the reference settles by brute force
+    yield next(chain(form, BRUTE_FORCE_LITERALS))
     yield from naf_and_defeat(form)
     yield from planted_cases(form, rng)
     yield from random_proposals(form, rng, 150)

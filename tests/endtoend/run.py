@@ -33,20 +33,20 @@ sys.path[:0] = [str(TESTS / "reference"), str(TESTS / "solver")]
 import answers                                                                  # noqa: E402
 import solve                                                                    # noqa: E402
 import traps                                                                    # noqa: E402
-from aspda import (PLAIN, YES, encoded_program, extension, read_rules,          # noqa: E402
-                   read_set, translation, verdict)
+from aspda import (CHECKED_LITERALS, PLAIN, SOURCE, YES, encoded_program,       # noqa: E402
+                   extension, read_rules, read_set, translation, verdict)
 from command import Command, CommandError                                       # noqa: E402
 from samples import literals_of                                                 # noqa: E402
 from text_form import Program, TextError, read_program, read_sets, set_text     # noqa: E402
 
 COMMAND = "target/rust/release/aspda"
-OPTIONS = range(5, 17)      # of a kit, all its rules together
-MOST_IN_PLAIN_SET = 64      # literals that check takes
+OPTIONS = range(5, SOURCE.heads + 1)    # of a kit, all its rules together
 NEAR = 12                   # sets with a literal dropped, and with one added, of each form
 FAR = 8                     # random sets of head literals
 SEED = 1
 VERDICT_NAMES = ("yes", "clash", "broken", "smaller")
-SIXTEEN = 16, 65_535, 50    # options of one rule: the old product's rules, and ours
+# The most options of one rule, 16: the old product's rules, and ours.
+WIDEST = SOURCE.heads, 65_535, 50
 README_ROW = re.compile(r"\| `kits/(\w+)\.txt` \| (\d+)[^|]*\|[^|]*\| (\d+) \|")
 
 
@@ -114,7 +114,7 @@ def compare_listings(command, kit, files):
 
 def restricted(command, kit, files, found):
     """The restriction of one of the solver's sets, checked on the way there and back."""
-    expect(len(found) <= MOST_IN_PLAIN_SET, "an answer set is too large for check")
+    expect(len(found) <= CHECKED_LITERALS, "an answer set is too large for check")
     proposed = command.set_file(found)
     expect(command.verdict(["--plain"], files.plain, proposed)[0] == YES,
            f"the solver's set is no answer set of the translation: {kit.words(found)}")
@@ -208,9 +208,9 @@ def compare_rule_numbers(kit, files):
     strict_rules = len(kit.program.rules) - len(choices)
     expect(ours == strict_rules + sum(3 * options + 2 for options in kit.options()),
            "the number of the translation's rules")
-    if kit.options() == [SIXTEEN[0]]:
+    if kit.options() == [WIDEST[0]]:
         old = sum(1 for _ in traps.old_rules(choices[0], doubly_negated=False))
-        expect((SIXTEEN[0], old, ours - strict_rules) == SIXTEEN,
+        expect((WIDEST[0], old, ours - strict_rules) == WIDEST,
                f"sixteen options: {old} rules of the old product, {ours - strict_rules} of ours")
     return ours
 
@@ -274,8 +274,9 @@ def main():
         print(f"endtoend: {solve.version()}")
         m3, *kits = map(read_kit, answers.kit_files())
         expect(len(kits) >= answers.LEAST_KITS and all(sum(kit.options()) in OPTIONS for kit in kits)
-               and any(kit.options() == [SIXTEEN[0]] for kit in kits),
-               f"not {answers.LEAST_KITS} kits of 5 to 16 options, one of them with 16 in one rule")
+               and any(kit.options() == [WIDEST[0]] for kit in kits),
+               f"not {answers.LEAST_KITS} kits of {OPTIONS[0]} to {OPTIONS[-1]} options, one of them "
+               f"with {WIDEST[0]} in one rule")
         with tempfile.TemporaryDirectory() as folder:
             failed = run_all(Command(program, folder), [m3, *kits])
         compare_readme(kits)

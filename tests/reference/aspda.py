@@ -42,11 +42,13 @@ SOURCE = Form(length=63_236, rules=256, heads=16, positives=16, nafs=16,
 PLAIN = Form(length=317_444, rules=12_800, heads=16, positives=16, nafs=17,
              marks=(STRICT, END), kinds=range(0, 7), set_literals=5_352)
 
-ATOMS = range(1, 501)
-TAGS = range(1, 201)
-NUMBERED_RULES = range(1, 257)
+LAST_ATOM, LAST_TAG, LAST_NUMBERED_RULE = 500, 200, 256
+ATOMS = range(1, LAST_ATOM + 1)
+TAGS = range(1, LAST_TAG + 1)
+NUMBERED_RULES = range(1, LAST_NUMBERED_RULE + 1)
 CHECKED_LITERALS = 64
 FILTER_OUTPUT = 65_536
+TIMES_LONGER = 13       # a translation has at most so many times its source's bytes
 
 RULE_HEADER = Struct(">2sHBBB")     # mark, tag, head count, positive count, naf count
 END_RECORD = Struct(">2sH")         # mark, number of rules

@@ -2,7 +2,9 @@
 
     python3 tests/reference/selftest.py
 
-The expected values stand here as the document gives them. Prints 'N checks, 0 failed'.
+The expected values stand here as the document gives them, but for the figures of the forms, which
+are the reference's: that they are the document's is said by tests/reliability, whose reference has
+its own and is compared at the limits too. Prints 'N checks, 0 failed'.
 """
 
 import random
@@ -11,9 +13,10 @@ import sys
 sys.dont_write_bytecode = True
 
 import samples
-from aspda import (BROKEN, CLASH, PLAIN, REFUSED, SMALLER, SOURCE, YES, answer_sets, atom,
-                   check_plain, check_source, defeasible, defeated, derived, encoded_literals,
-                   encoded_program, encoded_set, extend, extension, filter,
+from aspda import (ATOMS, BROKEN, BRUTE_FORCE_LITERALS, CHECKED_LITERALS, CLASH, LAST_ATOM,
+                   LAST_NUMBERED_RULE, LAST_TAG, PLAIN, REFUSED, SMALLER, SOURCE, TIMES_LONGER, YES,
+                   answer_sets, atom, check_plain, check_source, defeasible, defeated, derived,
+                   encoded_literals, encoded_program, encoded_set, extend, extension, filter,
                    first_smaller_by_brute_force, first_smaller_by_search, is_answer_set,
                    is_interpretation, negated, quotient, quotient_plain, quotient_source,
                    read_plain, read_rules, read_source, restrict, restriction, rule_defeated,
@@ -160,7 +163,8 @@ def read_word(form, data):
 
 
 def rule_limits(tally):
-    for form, limit in ((SOURCE, 256), (PLAIN, 12_800)):
+    for form in (SOURCE, PLAIN):
+        limit = form.rules
         rules = [strict()] * (limit + 1)
         tally.same(f"{limit} rules", read_word(form, encoded_program(rules[1:])), limit)
         tally.same(f"{limit + 1} rules", read_word(form, encoded_program(rules)),
@@ -169,31 +173,38 @@ def rule_limits(tally):
 
 def count_limits(tally):
     one = [atom(1)]
-    for form, counts in ((SOURCE, (16, 16, 16)), (PLAIN, (16, 16, 17))):
+    for form in (SOURCE, PLAIN):
+        counts = form.heads, form.positives, form.nafs
         for place, name in enumerate(("heads", "positives", "nafs")):
             for count, word in ((counts[place], 1), (counts[place] + 1, refused(4, 0))):
                 literals = [[], [], []]
                 literals[place] = one * count
                 data = encoded_program([strict(*literals)])
                 tally.same(f"{count} {name}", read_word(form, data), word)
-    heads = one * 16
-    tally.same("16 defeasible heads", read_word(SOURCE, encoded_program([defeasible(7, heads)])), 1)
-    tally.same("17 defeasible heads",
+    heads = one * SOURCE.heads
+    tally.same("most defeasible heads",
+               read_word(SOURCE, encoded_program([defeasible(7, heads)])), 1)
+    tally.same("one defeasible head more",
                read_word(SOURCE, encoded_program([defeasible(7, heads + one)])), refused(4, 0))
 
 
+def at_limit(last):
+    """Numbers at the ends of a literal's range, and the words of programs with them."""
+    return (0, refused(5, 7)), (1, 1), (last, 1), (last + 1, refused(5, 7))
+
+
 def number_limits(tally):
-    for number, word in ((0, refused(5, 7)), (1, 1), (500, 1), (501, refused(5, 7))):
+    for number, word in at_limit(LAST_ATOM):
         for form in (SOURCE, PLAIN):
             tally.same(f"atom {number}", read_word(form, encoded_program([strict([atom(number)])])),
                        word)
-    for tag, word in ((0, refused(5, 7)), (1, 1), (200, 1), (201, refused(5, 7))):
+    for tag, word in at_limit(LAST_TAG):
         mark = strict([defeated(tag, atom(1))])
         tally.same(f"mark with tag {tag}", read_word(SOURCE, encoded_program([mark])), word)
-    for tag, word in ((1, 1), (200, 1), (201, refused(6, 0))):
+    for tag, word in ((1, 1), (LAST_TAG, 1), (LAST_TAG + 1, refused(6, 0))):
         tally.same(f"rule with tag {tag}",
                    read_word(SOURCE, encoded_program([defeasible(tag, [atom(1)])])), word)
-    for number, word in ((0, refused(5, 7)), (1, 1), (256, 1), (257, refused(5, 7))):
+    for number, word in at_limit(LAST_NUMBERED_RULE):
         data = encoded_program([strict([rule_defeated(number)])])
         tally.same(f"rule number {number}", read_word(PLAIN, data), word)
         tally.same(f"rule number {number} in a source", read_word(SOURCE, data), refused(5, 7))
@@ -201,37 +212,44 @@ def number_limits(tally):
 
 def wide_program(rules, tag):
     """Rules with every count at the source form's limit."""
-    literals = [atom(number) for number in range(1, 17)]
-    return [defeasible(tag, literals, literals, literals)] * rules
+    literals = [atom(number) for number in ATOMS]
+    return [defeasible(tag, literals[:SOURCE.heads], literals[:SOURCE.positives],
+                       literals[:SOURCE.nafs])] * rules
 
 
 def length_limits(tally):
-    source = encoded_program(wide_program(256, 7))
-    tally.same("longest source", len(source), 63_236)
-    tally.same("longest source is read", read_word(SOURCE, source), 256)
+    source = encoded_program(wide_program(SOURCE.rules, 7))
+    tally.same("longest source", len(source), SOURCE.length)
+    tally.same("longest source is read", read_word(SOURCE, source), SOURCE.rules)
     tally.same("source too long", read_word(SOURCE, source + b"\0"), refused(1, 0))
-    word, plain = translate(source, out=bytes(317_445))
-    tally.same("longest translation", word, 317_444)
-    tally.same("longest translation is read", read_word(PLAIN, plain[:word]), 12_800)
+    word, plain = translate(source, out=bytes(PLAIN.length + 1))
+    tally.same("longest translation", word, PLAIN.length)
+    tally.same("longest translation is read", read_word(PLAIN, plain[:word]), PLAIN.rules)
     tally.same("plain too long", read_word(PLAIN, plain), refused(1, 0))
-    tally.same("translation one short", translate(source, out=bytes(317_443)).word, refused(9, 0))
+    tally.same("translation one short", translate(source, out=bytes(PLAIN.length - 1)).word,
+               refused(9, 0))
+
+
+def set_at_limit(most, word):
+    """The largest set and its word, and one literal more."""
+    return (most, word), (most + 1, refused(12, 0))
 
 
 def set_limits(tally):
     empty = encoded_program([])
-    for size, word in ((1_000, 4), (1_001, refused(12, 0))):
+    for size, word in set_at_limit(SOURCE.set_literals, 4):
         proposed = encoded_set(first_literals(size, SOURCE))
         tally.same(f"source set of {size}", quotient_source(empty, proposed, out=bytes(4)).word,
                    word)
         expected = word if word >= REFUSED else len(proposed)
         tally.same(f"extend set of {size}", extend(empty, proposed, out=bytes(6_000)).word,
                    expected)
-    for size, word in ((5_352, 4), (5_353, refused(12, 0))):
+    for size, word in set_at_limit(PLAIN.set_literals, 4):
         proposed = encoded_set(first_literals(size, PLAIN))
         tally.same(f"plain set of {size}", quotient_plain(empty, proposed, out=bytes(4)).word, word)
         expected = word if word >= REFUSED else len(proposed)
         tally.same(f"restrict set of {size}", restrict(proposed, out=bytes(30_000)).word, expected)
-    for size, word in ((64, SMALLER + 4), (65, refused(12, 0))):
+    for size, word in set_at_limit(CHECKED_LITERALS, SMALLER + 4):
         proposed = encoded_set(first_literals(size, SOURCE))
         for check in (check_source, check_plain):
             tally.same(f"check set of {size}", check(empty, proposed, out=bytes(400)).word, word)
@@ -288,7 +306,7 @@ def one_to_one_match(tally, rng):
 def translation_as_bytes(tally, rules, plain):
     """What translate writes is read as the translation, and its length is the document's sum."""
     source = encoded_program(rules)
-    word, buffer = translate(source, out=bytes(13 * len(source)))
+    word, buffer = translate(source, out=bytes(TIMES_LONGER * len(source)))
     tally.same(f"translation {rules}", read_rules(PLAIN, buffer[:word]), plain)
     tally.same(f"length {rules}", word, 4 + sum(map(translated_length, rules)))
 
@@ -301,7 +319,7 @@ def translated_length(rule):
 
 
 def brute_force_and_search(tally, rng):
-    """The two ways to the first smaller model, up to 16 literals."""
+    """The two ways to the first smaller model, up to the most literals that are tried by force."""
     for run in range(COMPARED_SEARCHES):
         large = run % 20 == 0
         shape = samples.Shape(rules=rng.randint(20, 40) if large else rng.randint(1, 25),
@@ -309,7 +327,8 @@ def brute_force_and_search(tally, rng):
                               nafs=1)
         rules = samples.random_plain(rng, shape)
         literals = sorted(samples.literals_of(rules))
-        proposed = frozenset(rng.sample(literals, min(len(literals), 16 if large else 9)))
+        most = BRUTE_FORCE_LITERALS if large else 9
+        proposed = frozenset(rng.sample(literals, min(len(literals), most)))
         left = quotient(rules, proposed)
         tally.same(f"smaller {rules} {sorted(proposed)}",
                    first_smaller_by_search(left, proposed),

@@ -10,6 +10,11 @@ using reference::Literal;
 using reference::Literals;
 using reference::Program;
 using reference::Rule;
+using reference::checked_set;
+using reference::last_atom;
+using reference::last_tag;
+using reference::plain_limits;
+using reference::source_limits;
 
 namespace {
 
@@ -18,7 +23,7 @@ constexpr std::size_t literal_size = 5, set_header = 4;
 // Room for every result of a call with these inputs.
 std::size_t ample(const Call &call)
 {
-    return 13 * call.program.size() + 6 * call.set.size() + 64;
+    return reference::times_longer * call.program.size() + 6 * call.set.size() + 64;
 }
 
 Bytes encoded(Literals set)
@@ -44,7 +49,7 @@ Literals run_of_literals(std::size_t count, bool negated_too, unsigned last_kind
         if (kind == reference::negated && !negated_too) continue;
         bool is_mark = kind >= reference::defeated;
         for (unsigned tag = is_mark ? 1 : 0; tag <= (is_mark ? 3u : 0u); ++tag)
-            for (unsigned number = 1; number <= reference::last_atom && run.size() < count; ++number)
+            for (unsigned number = 1; number <= last_atom && run.size() < count; ++number)
                 run.push_back({kind, tag, number});
     }
     return run;
@@ -53,7 +58,10 @@ Literals run_of_literals(std::size_t count, bool negated_too, unsigned last_kind
 // A byte that is often just inside or just outside a range of document 01.
 std::uint8_t near(Random &random, std::uint8_t old)
 {
-    const std::vector<unsigned> edges{0, 1, 6, 7, 16, 17, 18, 64, 65, 200, 201, 244, 245, 255};
+    constexpr std::size_t kind = plain_limits.last_kind, count = plain_limits.head, naf = plain_limits.naf,
+                          set = checked_set, tag = last_tag, atom = last_atom % 256;
+    constexpr std::array<std::size_t, 14> edges{0,   1,       kind, kind + 1, count, naf,      naf + 1,
+                                                set, set + 1, tag,  tag + 1,  atom,  atom + 1, 255};
     switch (random.below(4)) {
     case 0: return static_cast<std::uint8_t>(random.pick(edges));
     case 1: return static_cast<std::uint8_t>(old + 1);
@@ -130,14 +138,14 @@ Batch::Batch(std::uint64_t seed, std::uint64_t number, Style which)
 void Batch::choose_shape()
 {
     using Numbers = std::vector<unsigned>;
-    atoms = random.pick(Numbers{1, 2, 3, 4, 6, 10, 30, reference::last_atom});
-    tags = random.pick(Numbers{1, 2, 3, reference::last_tag});
+    atoms = random.pick(Numbers{1, 2, 3, 4, 6, 10, 30, last_atom});
+    tags = random.pick(Numbers{1, 2, 3, last_tag});
     rules = random.pick(Numbers{0, 1, 2, 3, 4, 5, 6, 8, 10, 12});
     head = random.pick(Numbers{1, 2, 2, 3, 4});
     body = random.pick(Numbers{0, 1, 2, 2, 3});
     if (random.once_in(20)) rules = random.between(20, 60);
-    if (random.once_in(15)) head = 16;
-    if (random.once_in(25)) body = 16;
+    if (random.once_in(15)) head = source_limits.head;
+    if (random.once_in(25)) body = source_limits.positive;
 }
 
 void Batch::make_small()
@@ -153,10 +161,10 @@ void Batch::make_small()
 
 void Batch::make_disjunctive()
 {
-    atoms = static_cast<unsigned>(random.once_in(20) ? random.between(40, 64) : random.between(4, 30));
+    atoms = static_cast<unsigned>(random.once_in(20) ? random.between(40, checked_set) : random.between(4, 30));
     std::size_t most = random.between(1, 4) * atoms;
     auto some_atom = [&] { return Literal{reference::atom, 0, static_cast<unsigned>(random.between(1, atoms))}; };
-    for (std::size_t i = 0; i < most && i < 256; ++i) {
+    for (std::size_t i = 0; i < most && i < source_limits.rules; ++i) {
         Rule made{};
         for (std::size_t n = random.between(1, 3); n > 0; --n) made.head.push_back(some_atom());
         for (std::size_t n = random.below(3); n > 0; --n) made.positive.push_back(some_atom());
@@ -171,20 +179,21 @@ void Batch::make_disjunctive()
 // The largest source, whose translation is the largest plain program; or as many rules as a form takes, or one more.
 void Batch::make_limit()
 {
-    atoms = reference::last_atom;
-    tags = reference::last_tag;
+    atoms = last_atom;
+    tags = last_tag;
     bool is_full = random.once_in(2);
-    rules = is_full ? 256 : random.between(250, 257);
-    head = is_full ? 16 : 1;
-    body = is_full ? 16 : 1;
+    const reference::Limits most = source_limits;
+    rules = is_full ? most.rules : random.between(most.rules - 6, most.rules + 1);
+    head = is_full ? most.head : 1;
+    body = is_full ? most.positive : 1;
     for (std::size_t i = 0; i < rules; ++i) {
         Rule made = rule(Form::source);
         if (is_full) {
             made.defeasible = true;
             made.tag = static_cast<unsigned>(random.between(1, tags));
-            made.head = literals(16, reference::negated);
-            made.positive = literals(16, reference::defeated_negated);
-            made.naf = literals(16, reference::defeated_negated);
+            made.head = literals(most.head, reference::negated);
+            made.positive = literals(most.positive, most.last_kind);
+            made.naf = literals(most.naf, most.last_kind);
         }
         source.rules.push_back(made);
     }
@@ -192,7 +201,8 @@ void Batch::make_limit()
     if (is_full) return;
     body = 0;
     plain.rules.clear();
-    for (std::size_t i = random.between(12795, 12801); i > 0; --i) plain.rules.push_back(rule(Form::plain));
+    std::size_t count = random.between(plain_limits.rules - 5, plain_limits.rules + 1);
+    for (std::size_t i = 0; i < count; ++i) plain.rules.push_back(rule(Form::plain));
     plain.bytes = reference::program_bytes(plain.rules);
 }
 
@@ -200,7 +210,7 @@ void Batch::make_limit()
 void Batch::encode_source()
 {
     source.bytes = reference::program_bytes(source.rules);
-    Bytes translation(13 * source.bytes.size());
+    Bytes translation(reference::times_longer * source.bytes.size());
     std::uint64_t word = reference::translate(source.bytes, translation);
     translation.resize(ASPDA_IS_REFUSAL(word) ? 0 : word);
     plain.bytes = translation;
@@ -227,11 +237,11 @@ void Batch::make_sets(Form form)
 
 Literal Batch::literal(unsigned last_kind)
 {
-    auto number = static_cast<unsigned>(random.once_in(40) ? reference::last_atom : random.between(1, atoms));
-    auto tag = static_cast<unsigned>(random.once_in(40) ? reference::last_tag : random.between(1, tags));
+    auto number = static_cast<unsigned>(random.once_in(40) ? last_atom : random.between(1, atoms));
+    auto tag = static_cast<unsigned>(random.once_in(40) ? last_tag : random.between(1, tags));
     unsigned kind = random.once_in(2) ? 0 : static_cast<unsigned>(random.below(last_kind + 1));
     if (kind == reference::rule_defeated)
-        return {kind, 0, static_cast<unsigned>(std::min<std::size_t>(random.between(1, rules + 1), 256))};
+        return {kind, 0, std::min(static_cast<unsigned>(random.between(1, rules + 1)), reference::last_rule_number)};
     return {kind, kind < reference::defeated ? 0 : tag, number};
 }
 
@@ -252,7 +262,8 @@ Rule Batch::rule(Form form)
     made.head = literals(random.between(least, head), made.defeasible ? reference::negated : last_kind);
     made.positive = literals(random.below(body + 1), last_kind);
     made.naf = literals(random.below(body + 1), last_kind);
-    if (form == Form::plain && body == 16 && random.once_in(4)) made.naf = literals(17, last_kind);
+    if (form == Form::plain && body == plain_limits.positive && random.once_in(4))
+        made.naf = literals(plain_limits.naf, last_kind);
     return made;
 }
 
@@ -322,7 +333,7 @@ Bytes Batch::set_for(unsigned operation)
     if (style == Style::limit && random.once_in(2))
         return encoded(run_of_literals(random.between(most.set - 1, most.set + 1), true, most.last_kind));
     if (random.once_in(40))
-        return encoded(run_of_literals(random.between(62, 66), random.once_in(2), most.last_kind));
+        return encoded(run_of_literals(random.between(checked_set - 2, checked_set + 2), random.once_in(2), most.last_kind));
     if (random.once_in(4)) return encoded(literals(random.below(12), most.last_kind));
     Bytes set = random.pick(side(form).sets);
     return random.once_in(2) ? altered(set, form) : set;

@@ -9,6 +9,7 @@
 namespace {
 
 using calls::Bytes;
+using reference::last_atom;
 
 void put(const std::string &directory, unsigned operation, std::size_t number, const Bytes &set, const Bytes &program)
 {
@@ -30,11 +31,14 @@ void put_all(const std::string &directory, const Bytes &set, const Bytes &progra
 // As many rules as a source takes, and one more; sets as large as the check and a source take, and one more.
 void put_limits(const std::string &directory)
 {
-    for (std::size_t rules : {256, 257})
+    constexpr std::size_t most_rules = reference::source_limits.rules, most_literals = reference::source_limits.set;
+    for (std::size_t rules : {most_rules, most_rules + 1})
         put_all(directory, reference::set_bytes({}), reference::program_bytes(reference::Program(rules)));
-    for (unsigned literals : {64, 65, 1000, 1001}) {
+    for (std::size_t literals :
+         {reference::checked_set, reference::checked_set + 1, most_literals, most_literals + 1}) {
         reference::Literals set;
-        for (unsigned i = 0; i < literals; ++i) set.push_back({i / 500 * 2, i / 500, i % 500 + 1});
+        for (unsigned i = 0; i < literals; ++i)
+            set.push_back({i / last_atom * 2, i / last_atom, i % last_atom + 1});
         put_all(directory, reference::set_bytes(set), reference::program_bytes({}));
     }
 }

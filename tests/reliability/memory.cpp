@@ -255,7 +255,7 @@ std::size_t stack_of(const Call &call, std::uint8_t *stack)
     return static_cast<std::size_t>(painted.frame - lowest);
 }
 
-// A check of 64 literals that no rule mentions tries each of them, one inside the other.
+// A check of as many literals as it takes, which no rule mentions, tries each of them, one inside the other.
 void visit_deepest(const Visit &visit)
 {
     reference::Literals set;

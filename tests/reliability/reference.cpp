@@ -4,12 +4,6 @@
 
 namespace reference {
 
-Limits limits(Form form)
-{
-    if (form == Form::source) return {63236, 256, 16, 16, 16, defeated_negated, 1000};
-    return {317444, 12800, 16, 16, 17, rule_defeated, 5352};
-}
-
 namespace {
 
 struct Refusal {

@@ -14,6 +14,8 @@ using Bytes = std::vector<std::uint8_t>;
 
 enum class Form { source, plain };
 
+enum Kind : unsigned { atom, negated, defeated, defeated_negated, derived, derived_negated, rule_defeated };
+
 // A form's row of limits (document 01, "Source form and plain form").
 struct Limits {
     std::size_t length, rules, head, positive, naf;
@@ -21,12 +23,18 @@ struct Limits {
     std::size_t set;
 };
 
-Limits limits(Form form);
+constexpr Limits source_limits{63236, 256, 16, 16, 16, defeated_negated, 1000};
+constexpr Limits plain_limits{317444, 12800, 16, 16, 17, rule_defeated, 5352};
+
+constexpr Limits limits(Form form)
+{
+    return form == Form::source ? source_limits : plain_limits;
+}
 
 constexpr unsigned last_atom = 500, last_tag = 200, last_rule_number = 256;
 constexpr std::size_t checked_set = 64;
-
-enum Kind : unsigned { atom, negated, defeated, defeated_negated, derived, derived_negated, rule_defeated };
+// A translation has at most so many times its source's bytes.
+constexpr std::size_t times_longer = 13;
 
 // In the order of the fields, which is the order of the bytes.
 struct Literal {

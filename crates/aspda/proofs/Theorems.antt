@@ -6,9 +6,9 @@ use mathlib.Core.Path.{_≡_, refl, sym, _∙_, ap}
 use mathlib.Core.List.{List}
 use mathlib.Core.Bool.{Bool}
 use mathlib.Core.Logic.{_↔_}
-use lib.Dec.{T, leb, ltb, le→leb}
-use borrow.Author.Tests.{le-ltb}
+use lib.Dec.{T, ltb}
 use lib.ListN.{length, take, drop}
+use borrow.Author.Tests.{le-ltb}
 use Rattle.buffer.specs.Bytes.{Bytes}
 use Rattle.buffer.specs.Write.{write}
 use Rattle.buffer.proofs.Laws.Write.{take-write, drop-write}
@@ -16,57 +16,62 @@ use Rattle.literal.specs.declared.Limits.{Limits}
 use Rattle.literal.specs.declared.Literal.{Literal}
 use Rattle.literal.specs.Literal.{mostKind, takes}
 use Rattle.literal.specs.Limits.{source, plain}
+use Rattle.literal.proofs.Laws.Literal.{Fits, TwoBytes}
 use Rattle.semantics.specs.Set.{eachOf, setOf}
 use Rattle.semantics.specs.Rule.{Program}
 use Rattle.semantics.specs.Extension.{sourceKind}
 use Rattle.semantics.specs.Translation.{translation, translationLength}
-use Rattle.semantics.proofs.Laws.Length.{programLength, length-translation, count-translation, thirteenfold}
 use Rattle.semantics.specs.Match.{FormMatch}
 use Rattle.semantics.specs.Form.{keepsRules}
-use Rattle.semantics.proofs.Laws.Tests.{both, all-mem, all-intro}
-use Rattle.semantics.proofs.Laws.Form.{Covers, takes-source}
-use Rattle.semantics.proofs.Laws.Room.{Room, translation-keeps, translation-short}
-use Rattle.semantics.proofs.FormMatch.{form-match}
 use Rattle.semantics.specs.Meaning.{AnswerSet}
 use Rattle.semantics.specs.Verdict.{Finding, clash, broken, smaller, answerSet, finding}
+use Rattle.semantics.proofs.Laws.Length.{programLength, length-translation, count-translation, thirteenfold}
+use Rattle.semantics.proofs.Laws.Tests.{Each, all-mem, all-intro}
+use Rattle.semantics.proofs.Laws.Agree.{Speaks}
+use Rattle.semantics.proofs.Laws.Wider.{source-wider}
+use Rattle.semantics.proofs.Laws.Form.{keeps-count, keeps-each, Covers, takes-source}
+use Rattle.semantics.proofs.Laws.Room.{Room, translation-keeps, translation-short}
+use Rattle.semantics.proofs.FormMatch.{form-match}
 use Rattle.semantics.proofs.Laws.Verdict.{finding-clash, finding-broken, finding-smaller, finding-answer-set}
 use Rattle.record.specs.declared.Reason.the-variants.{OutputShort}
-use Rattle.record.specs.Refusal.{refusal}
 use Rattle.record.specs.declared.Written.the-variants.{Length}
+use Rattle.record.specs.Refusal.{refusal}
 use Rattle.record.specs.Result.{Result, accepted, andThen, refuseIf, Outcome, delivered}
-use Rattle.record.specs.Layout.{encodedProgram, keeps}
+use Rattle.record.specs.Layout.{encodedProgram}
 use Rattle.record.specs.Reading.{parsed}
 use Rattle.record.proofs.Laws.Layout.{length-encoded-program}
 use Rattle.record.proofs.Laws.Bounds.{parsed-short}
 use Rattle.record.proofs.Laws.Reading.{parsed-sound, parsed-complete, reading-iff}
+use Rattle.record.proofs.Laws.Fit.{program-fits}
+use Rattle.record.proofs.Laws.Keeps.{keeps-program}
 use Rattle.record.proofs.Laws.Result.{accepted-and-then}
 use Rattle.record.proofs.Laws.Delivered.{delivered-fits}
-use Rattle.translate.specs.Translate.{translatedBytes, translated}
-use Rattle.litset.specs.Layout.{encodedSet, keepsSet}
-use Rattle.litset.specs.Reading.{parsedSet}
+use Rattle.record_show.proofs.Laws.Record.{shown-behind, shown-record, shown-nothing}
+use Rattle.set.specs.Layout.{encodedSet, keepsSet}
+use Rattle.set.specs.Reading.{parsedSet}
+use Rattle.set.proofs.Laws.Reading.{parsed-set-sound, set-reading-iff, keeps-set-taken, keeps-set-ascending}
+use Rattle.set.proofs.Laws.Written.{set-read-back}
 use Rattle.inputs.specs.Inputs.{withInputs}
-use Rattle.litset.proofs.Laws.Reading.{parsed-set-sound, set-reading-iff, keeps-set-taken, keeps-set-ascending}
-use Rattle.litset.proofs.Laws.Written.{TwoBytes, set-read-back}
+use Rattle.translate.specs.Translate.{translatedBytes, translated}
 use Rattle.quotient.specs.Quotient.{quotientProgram, quotientBytes, quotiented}
 use Rattle.quotient.proofs.Laws.Plain.{Within, quotient-read, source-within, plain-within}
-use Rattle.extend.proofs.Laws.Extend.{extension-list, extension-ascending-form}
 use Rattle.extend.specs.Extend.{extensionList, extensionBytes, extended}
 use Rattle.extend.specs.Code.{most}
+use Rattle.extend.proofs.Laws.Extend.{extension-list, extension-ascending-form}
 use Rattle.extend.proofs.Laws.Outcome.{extendable-source}
 use Rattle.extend.proofs.Laws.Kept.{extension-keeps}
 use Rattle.extend.proofs.Laws.Added.{extension-marks}
 use Rattle.restrict.specs.Restrict.{restrictionList, restrictionBytes, restricted}
 use Rattle.restrict.proofs.Laws.Restriction.{restriction-joined, restriction-set}
-use Rattle.judge.specs.declared.Verdict.{Verdict}
-use Rattle.judge.specs.declared.Verdict.the-variants.{Yes}
-use Rattle.verdict.specs.declared.Check.the-variants.{Found}
-use Rattle.judge.specs.Verdict.{verdictOf, witness}
-use Rattle.verdict.specs.Check.{found, Checked, checkedOf, checked}
-use Rattle.showing.proofs.Laws.Record.{shown-behind, shown-record, shown-nothing}
+use Rattle.check_set.specs.declared.Verdict.{Verdict}
+use Rattle.check_set.specs.declared.Verdict.the-variants.{Yes}
+use Rattle.check_set.specs.declared.Check.the-variants.{Found}
+use Rattle.check_set.specs.Verdict.{verdictOf, witness}
+use Rattle.check_set.specs.Check.{found, Checked, checkedOf, checked}
+use Rattle.aspda_word.specs.Words.{ToldWritten}
+use Rattle.aspda.specs.Claims.{Reading, Quotients, Quotient, Extending, Checks, Checking, Shows, Showing, Translates, Translating, Tells, Words}
 use Rattle.aspda.proofs.Laws.Lengths.{rules-kept, quotient-no-longer, extension-at-most, restriction-no-longer}
 use Rattle.aspda.proofs.Laws.Told.{bounded, bounded-then, told-delivered, told-read, told-show, told-checked, told-quotiented, told-extended, told-restricted}
-use Rattle.word.specs.Words.{ToldWritten}
-use Rattle.aspda.specs.Claims.{Reading, Quotients, Quotient, Extending, Checks, Checking, Shows, Showing, Translates, Translating, Tells, Words}
 
 pub reading : Reading
 reading =
@@ -78,9 +83,11 @@ reading =
     }
 
 -- of a program and a set that are read, what is made of both is delivered
-made-fits : (F : Limits) (make : Program → List Literal → List ℕ) (b k : List ℕ) (p : Program) (ls : List Literal) → parsed F b ≡ accepted p → parsedSet F (F .literals) k ≡ accepted ls
+made-fits : (F : Limits) (make : Program → List Literal → List ℕ) (b k : List ℕ) (p : Program) (ls : List Literal)
+    → parsed F b ≡ accepted p → parsedSet F (F .literals) k ≡ accepted ls
     → (out : List ℕ) → length (make p ls) ≤ length out
-    → delivered (andThen (parsed F b) (λ p. andThen (parsedSet F (F .literals) k) (λ ls. accepted (make p ls)))) out ≡ record { answer = Length (length (make p ls)); buffer = write out 0 (make p ls) }
+    → delivered (andThen (parsed F b) (λ p. andThen (parsedSet F (F .literals) k) (λ ls. accepted (make p ls)))) out
+    ≡ record { answer = Length (length (make p ls)); buffer = write out 0 (make p ls) }
 made-fits F make b k p ls e q out fits =
     ap (λ (r : Result Program). delivered (andThen r (λ p. andThen (parsedSet F (F .literals) k) (λ ls. accepted (make p ls)))) out) e
     ∙ ap (λ (r : Result (List ℕ)). delivered r out) (accepted-and-then p (λ p. andThen (parsedSet F (F .literals) k) (λ ls. accepted (make p ls))))
@@ -119,7 +126,7 @@ module _ (k : List ℕ) (ls : List Literal) (bytes : Bytes k) (read : parsedSet 
 
 plain-covers : Covers source plain
 unfolding source plain mostKind
-plain-covers = omega arith
+plain-covers = record { wider = source-wider; kinds = omega arith; numbers = omega arith }
 
 -- the plain form has room for an extension, and its numbers fit their fields
 plain-literals : source .literals + most ≤ plain .literals
@@ -128,7 +135,11 @@ plain-literals = omega arith
 
 plain-fields : TwoBytes plain
 unfolding plain
-plain-fields = record { atoms = omega arith; tags = omega arith; numbers = omega arith }
+plain-fields = record { atoms = omega arith; tags = omega arith; numbers = λ kinds. omega arith }
+
+-- the literals that a source speaks of fit two bytes
+read-fits : (b : List ℕ) (p : Program) → Bytes b → parsed source b ≡ accepted p → Each (Speaks Fits) p
+read-fits b p bytes read = program-fits b p bytes (parsed-sound source b p bytes read .0)
 
 pub extending : Extending
 unfolding extended extensionBytes withInputs restricted restrictionBytes source
@@ -137,10 +148,14 @@ extending =
       writes = made-fits source (λ p ls. encodedSet (extensionList p ls));
       reads-back = λ b k p ls bytes chars read held.
           set-read-back plain plain-fields (plain .literals) (extensionList p ls)
-          (extension-keeps source extendable-source p (rules-kept source b p bytes read) plain plain-covers source-kinds plain-literals ls (set-kept k ls chars held));
-      extends = λ b p ls bytes read. extension-list source extendable-source p (rules-kept source b p bytes read) ls;
-      ascends = λ k p ls bytes read. extension-ascending-form source extendable-source source-kinds p ls (set-taken k ls bytes read) (keeps-set-ascending source (source .literals) ls (set-kept k ls bytes read));
-      returns = λ k p ls bytes read. let w = extension-marks p ls in ap restrictionList (w .1) ∙ restriction-joined ls (w .0) (set-source k ls bytes read) (w .2);
+          (extension-keeps source extendable-source p (rules-kept source b p bytes read) (read-fits b p bytes read) plain plain-covers source-kinds
+          plain-literals ls (set-kept k ls chars held));
+      extends = λ b p ls bytes read. extension-list p (omega (arith, keeps-count source p (rules-kept source b p bytes read))) (read-fits b p bytes read) ls;
+      ascends = λ k p ls bytes read.
+          extension-ascending-form source extendable-source source-kinds p ls (set-taken k ls bytes read)
+          (keeps-set-ascending source (source .literals) ls (set-kept k ls bytes read));
+      returns = λ k p ls bytes read.
+          let w = extension-marks p ls in ap restrictionList (w .1) ∙ restriction-joined ls (w .0) (set-source k ls bytes read) (w .2);
       writes-restriction = λ k ls held out fits.
           ap (λ (r : Result (List Literal)). delivered (andThen r (λ ls. accepted (encodedSet (restrictionList ls)))) out) held
           ∙ ap (λ (r : Result (List ℕ)). delivered r out) (accepted-and-then ls (λ ls. accepted (encodedSet (restrictionList ls))))
@@ -165,19 +180,23 @@ yes-verdict f e = ap (λ (g : Finding). Found (verdictOf g)) e
 found-verdict : {v w : Verdict} → Found v ≡ Found w → v ≡ w
 found-verdict e = cc
 
-module _ (F : Limits) (b k : List ℕ) (p : Program) (ls : List Literal) (read : parsed F b ≡ accepted p) (held : parsedSet F (F .checked) k ≡ accepted ls) (out : List ℕ) (fits : length k ≤ length out) where
-  check-finds : checked F b k out ≡ record { answer = Found (verdictOf (finding p ls)); buffer = write out 0 (witness (finding p ls)) }
-  unfolding checked found withInputs andThen refuseIf checkedOf
-  check-finds =
-      ap (λ (r : Result Program). checkedOf (andThen r (λ p. andThen (parsedSet F (F .checked) k) (λ ls. refuseIf (ltb (length out) (length k)) (refusal OutputShort 0) (accepted (finding p ls))))) out) read
-      ∙ ap (λ (r : Result (List Literal)). checkedOf (andThen r (λ ls. refuseIf (ltb (length out) (length k)) (refusal OutputShort 0) (accepted (finding p ls)))) out) held
-      ∙ ap (λ (x : Bool). checkedOf (refuseIf x (refusal OutputShort 0) (accepted (finding p ls))) out) (le-ltb (length out) (length k) fits)
+module _ (F : Limits) (b k : List ℕ) (p : Program) (ls : List Literal) (read : parsed F b ≡ accepted p) (held : parsedSet F (F .checked) k ≡ accepted ls)
+    (out : List ℕ) (fits : length k ≤ length out)
+  where
+    check-finds : checked F b k out ≡ record { answer = Found (verdictOf (finding p ls)); buffer = write out 0 (witness (finding p ls)) }
+    unfolding checked found withInputs andThen refuseIf checkedOf
+    check-finds =
+        let short = ltb (length out) (length k) in
+        let judged : Program → List Literal → Result Finding = λ p ls. refuseIf short (refusal OutputShort 0) (accepted (finding p ls)) in
+        ap (λ (r : Result Program). checkedOf (andThen r (λ p. andThen (parsedSet F (F .checked) k) (judged p))) out) read
+        ∙ ap (λ (r : Result (List Literal)). checkedOf (andThen r (judged p)) out) held
+        ∙ ap (λ (x : Bool). checkedOf (refuseIf x (refusal OutputShort 0) (accepted (finding p ls))) out) (le-ltb (length out) (length k) fits)
 
-  check-yes : (checked F b k out .answer ≡ Found Yes) ↔ AnswerSet p (setOf ls)
-  check-yes = (
-    λ e. finding-answer-set p ls .0 (verdict-yes (finding p ls) (found-verdict (sym (ap (λ (o : Checked). o .answer) check-finds) ∙ e))),
-    λ w. ap (λ (o : Checked). o .answer) check-finds ∙ yes-verdict (finding p ls) (finding-answer-set p ls .1 w),
-  )
+    check-yes : (checked F b k out .answer ≡ Found Yes) ↔ AnswerSet p (setOf ls)
+    check-yes = (
+      λ e. finding-answer-set p ls .0 (verdict-yes (finding p ls) (found-verdict (sym (ap (λ (o : Checked). o .answer) check-finds) ∙ e))),
+      λ w. ap (λ (o : Checked). o .answer) check-finds ∙ yes-verdict (finding p ls) (finding-answer-set p ls .1 w),
+    )
 
 checks : (F : Limits) → Checks F
 checks F = record { finds = check-finds F; says-yes = check-yes F }
@@ -204,7 +223,6 @@ unfolding source plain
 plain-room =
     record {
       covers = plain-covers;
-      source-kinds = source-kinds;
       heads = omega arith;
       positives = omega arith;
       nafs = omega arith;
@@ -220,11 +238,11 @@ module _ (b : List ℕ) (p : Program) (bytes : Bytes b) (read : parsed source b 
   result-length = length-encoded-program (translation p) ∙ length-translation p
 
   read-back : parsed plain (encodedProgram (translation p)) ≡ accepted (translation p)
-  unfolding keeps
   read-back =
+      let rules = translation-keeps source plain plain-room p kept in
       parsed-complete plain (translation p)
-      (both (keepsRules plain (translation p)) (leb (length (encodedProgram (translation p))) (plain .length)) (translation-keeps source plain plain-room p kept)
-      (le→leb (length (encodedProgram (translation p))) (plain .length) (omega (arith, result-length, translation-short source plain plain-room p kept))))
+      (keeps-program plain (translation p) (keeps-count plain (translation p) rules) (keeps-each plain (translation p) rules)
+      (omega (arith, result-length, translation-short source plain plain-room p kept)))
 
   source-length : length b ≡ programLength p
   source-length = ap length (parsed-sound source b p bytes read .0) ∙ length-encoded-program p
@@ -288,7 +306,8 @@ unfolding translated translatedBytes source
 translated-told b out bytes =
     told-delivered (13 * source .length) (omega arith) (translatedBytes source b) out
     (bounded-then (13 * source .length) (parsed source b) (λ q. accepted (encodedProgram (translation q))) (λ p e.
-    bounded (13 * source .length) (encodedProgram (translation p)) (omega (arith, result-length b p bytes e, at-most-thirteenfold b p bytes e, parsed-short source b p e))))
+    bounded (13 * source .length) (encodedProgram (translation p))
+    (omega (arith, result-length b p bytes e, at-most-thirteenfold b p bytes e, parsed-short source b p e))))
 
 pub words : Words
 unfolding source plain

@@ -26,20 +26,20 @@ use Rattle.record.specs.declared.Written.the-variants.{Length}
 use Rattle.record.specs.Result.{accepted}
 use Rattle.record.specs.Layout.{encodedRule, encodedRules, encodedProgram, keeps}
 use Rattle.record.specs.Reading.{parsed, reading}
-use Rattle.showing.specs.declared.Extent.{Extent}
-use Rattle.showing.specs.declared.Shown.the-variants.{At, Refused}
-use Rattle.showing.specs.Show.{shown, shownExtent}
-use Rattle.litset.specs.Layout.{ascending, encodedSet, keepsSet}
-use Rattle.litset.specs.Reading.{parsedSet}
+use Rattle.record_show.specs.declared.Extent.{Extent}
+use Rattle.record_show.specs.declared.Shown.the-variants.{At, Refused}
+use Rattle.record_show.specs.Show.{shown, shownExtent}
+use Rattle.set.specs.Layout.{ascending, encodedSet, keepsSet}
+use Rattle.set.specs.Reading.{parsedSet}
 use Rattle.translate.specs.Translate.{translated}
 use Rattle.quotient.specs.Quotient.{quotientProgram, quotiented}
 use Rattle.extend.specs.Extend.{extensionList, extended}
 use Rattle.restrict.specs.Restrict.{restrictionList, restricted}
-use Rattle.judge.specs.declared.Verdict.the-variants.{Yes}
-use Rattle.verdict.specs.declared.Check.the-variants.{Found}
-use Rattle.judge.specs.Verdict.{verdictOf, witness}
-use Rattle.verdict.specs.Check.{checked}
-use Rattle.word.specs.Words.{ToldReading, ToldWritten, ToldShown, ToldCheck}
+use Rattle.check_set.specs.declared.Verdict.the-variants.{Yes}
+use Rattle.check_set.specs.declared.Check.the-variants.{Found}
+use Rattle.check_set.specs.Verdict.{verdictOf, witness}
+use Rattle.check_set.specs.Check.{checked}
+use Rattle.aspda_word.specs.Words.{ToldReading, ToldWritten, ToldShown, ToldCheck}
 
 -- demand 1, accepted half: reading in a form accepts exactly the encodings of programs within the form's limits
 abbrev pub Reads : Limits → Type 0
@@ -61,8 +61,12 @@ pub record Reading : Type 0 where
 pub record Quotients (F : Limits) : Type 0 where
   pub writes : (b k : List ℕ) (p : Program) (ls : List Literal) → parsed F b ≡ accepted p → parsedSet F (F .literals) k ≡ accepted ls
       → (out : List ℕ) → length (encodedProgram (quotientProgram p ls)) ≤ length out
-      → quotiented F b k out ≡ record { answer = Length (length (encodedProgram (quotientProgram p ls))); buffer = write out 0 (encodedProgram (quotientProgram p ls)) }
-  pub reads-back : (b : List ℕ) (p : Program) (ls : List Literal) → Bytes b → parsed F b ≡ accepted p → parsed plain (encodedProgram (quotientProgram p ls)) ≡ accepted (quotientProgram p ls)
+      → quotiented F b k out ≡ record {
+        answer = Length (length (encodedProgram (quotientProgram p ls)));
+        buffer = write out 0 (encodedProgram (quotientProgram p ls));
+      }
+  pub reads-back : (b : List ℕ) (p : Program) (ls : List Literal) → Bytes b → parsed F b ≡ accepted p
+      → parsed plain (encodedProgram (quotientProgram p ls)) ≡ accepted (quotientProgram p ls)
   -- it is no longer than its program
   pub no-longer : (b : List ℕ) (p : Program) (ls : List Literal) → Bytes b → parsed F b ≡ accepted p → length (encodedProgram (quotientProgram p ls)) ≤ length b
 
@@ -77,19 +81,25 @@ pub record Extending : Type 0 where
   pub writes : (b k : List ℕ) (p : Program) (ls : List Literal) → parsed source b ≡ accepted p → parsedSet source (source .literals) k ≡ accepted ls
       → (out : List ℕ) → length (encodedSet (extensionList p ls)) ≤ length out
       → extended source b k out ≡ record { answer = Length (length (encodedSet (extensionList p ls))); buffer = write out 0 (encodedSet (extensionList p ls)) }
-  pub reads-back : (b k : List ℕ) (p : Program) (ls : List Literal) → Bytes b → Bytes k → parsed source b ≡ accepted p → parsedSet source (source .literals) k ≡ accepted ls
+  pub reads-back : (b k : List ℕ) (p : Program) (ls : List Literal) → Bytes b → Bytes k → parsed source b ≡ accepted p
+      → parsedSet source (source .literals) k ≡ accepted ls
       → parsedSet plain (plain .literals) (encodedSet (extensionList p ls)) ≡ accepted (extensionList p ls)
   pub extends : (b : List ℕ) (p : Program) (ls : List Literal) → Bytes b → parsed source b ≡ accepted p → setOf (extensionList p ls) ≡ extension p (setOf ls)
-  pub ascends : (k : List ℕ) (p : Program) (ls : List Literal) → Bytes k → parsedSet source (source .literals) k ≡ accepted ls → T (ascending (extensionList p ls))
-  pub returns : (k : List ℕ) (p : Program) (ls : List Literal) → Bytes k → parsedSet source (source .literals) k ≡ accepted ls → restrictionList (extensionList p ls) ≡ ls
-  pub writes-restriction : (k : List ℕ) (ls : List Literal) → parsedSet plain (plain .literals) k ≡ accepted ls → (out : List ℕ) → length (encodedSet (restrictionList ls)) ≤ length out
+  pub ascends : (k : List ℕ) (p : Program) (ls : List Literal) → Bytes k → parsedSet source (source .literals) k ≡ accepted ls
+      → T (ascending (extensionList p ls))
+  pub returns : (k : List ℕ) (p : Program) (ls : List Literal) → Bytes k → parsedSet source (source .literals) k ≡ accepted ls
+      → restrictionList (extensionList p ls) ≡ ls
+  pub writes-restriction : (k : List ℕ) (ls : List Literal) → parsedSet plain (plain .literals) k ≡ accepted ls → (out : List ℕ)
+      → length (encodedSet (restrictionList ls)) ≤ length out
       → restricted plain k out ≡ record { answer = Length (length (encodedSet (restrictionList ls))); buffer = write out 0 (encodedSet (restrictionList ls)) }
   pub restricts : (ls : List Literal) → setOf (restrictionList ls) ≡ restriction (setOf ls)
   -- an extension takes at most 25,484 bytes: 1,000 literals and 4,096 marks
-  pub at-most : (b k : List ℕ) (p : Program) (ls : List Literal) → Bytes b → Bytes k → parsed source b ≡ accepted p → parsedSet source (source .literals) k ≡ accepted ls
+  pub at-most : (b k : List ℕ) (p : Program) (ls : List Literal) → Bytes b → Bytes k → parsed source b ≡ accepted p
+      → parsedSet source (source .literals) k ≡ accepted ls
       → length (encodedSet (extensionList p ls)) ≤ 25484
   -- a restriction is no longer than its set
-  pub no-longer : (k : List ℕ) (ls : List Literal) → Bytes k → parsedSet plain (plain .literals) k ≡ accepted ls → length (encodedSet (restrictionList ls)) ≤ length k
+  pub no-longer : (k : List ℕ) (ls : List Literal) → Bytes k → parsedSet plain (plain .literals) k ≡ accepted ls
+      → length (encodedSet (restrictionList ls)) ≤ length k
 
 -- demand 2, the check in a form: of a program and a set that are read, with room for the set's record, the answer and the
 -- buffer are those of the finding, and the answer is yes exactly for an answer set

@@ -1,30 +1,30 @@
 // The exported functions. A slice is a pointer and a length; include/aspda.h has them in C's words.
 
+use aspda_word::word::check_word;
+use aspda_word::word::reading_word;
+use aspda_word::word::shown_word;
+use aspda_word::word::written_word;
+use check_set::proposed::check_plain;
+use check_set::proposed::check_source;
 use extend::extend::extend_source;
 use quotient::quotient::quotient_plain;
 use quotient::quotient::quotient_source;
-use reading::read::read_plain;
-use reading::read::read_source;
+use record_read::read::read_plain;
+use record_read::read::read_source;
+use record_show::show::find_plain;
+use record_show::show::find_source;
 use restrict::restrict::restrict_plain;
-use showing::show::find_plain;
-use showing::show::find_source;
 use translate::translate::translate_source;
-use verdict::proposed::check_plain;
-use verdict::proposed::check_source;
-use word::word::check_word;
-use word::word::reading_word;
-use word::word::shown_word;
-use word::word::written_word;
 ghost use mathlib.Core.Path.{_≡_};
 ghost use Rattle.literal.specs.Limits.{source, plain};
 ghost use Rattle.record.specs.Reading.{reading};
-ghost use Rattle.showing.specs.Show.{shown};
+ghost use Rattle.record_show.specs.Show.{shown};
 ghost use Rattle.translate.specs.Translate.{translated};
 ghost use Rattle.quotient.specs.Quotient.{quotiented};
 ghost use Rattle.extend.specs.Extend.{extended};
 ghost use Rattle.restrict.specs.Restrict.{restricted};
-ghost use Rattle.verdict.specs.Check.{checked};
-ghost use Rattle.word.specs.Words.{readingWord, shownWord, MeetsWord, MeetsVerdict};
+ghost use Rattle.check_set.specs.Check.{checked};
+ghost use Rattle.aspda_word.specs.Words.{readingWord, shownWord, MeetsWord, MeetsVerdict};
 
 // The number of rules of a source, or the refusal.
 #[no_mangle]

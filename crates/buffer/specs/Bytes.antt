@@ -1,6 +1,6 @@
 -- Lists of bytes, and numbers in them (01, "Records": fields are unsigned, highest byte first).
 -- In order: a list of bytes; a number's bytes and back, for fields of one, two and four bytes.
--- Not here: which fields a record has (`record`, `litset`).
+-- Not here: which fields a record has (`record`, `set`).
 -- Assumes nothing.
 use Prim.Native.Nat.{ℕ, _+_, _*_, _/_, _%_, _<_}
 use mathlib.Core.List.{List, [], _∷_, _++_}
@@ -12,7 +12,7 @@ Bytes bs = (i : ℕ) → getD bs i 0 < 256
 
 -- a field of two bytes, and of four
 abbrev pub twoBytes : ℕ → List ℕ
-twoBytes n = n / 256 ∷ (n % 256 ∷ [])
+twoBytes n = n / 256 ∷ n % 256 ∷ []
 
 abbrev pub fourBytes : ℕ → List ℕ
 fourBytes n = twoBytes (n / 65536) ++ twoBytes (n % 65536)

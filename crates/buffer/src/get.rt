@@ -1,7 +1,7 @@
 // A number of two bytes, the highest first, read from a slice.
 
-ghost use mathlib.Core.Path.{_≡_};
 ghost use Prim.Native.Nat.{_+_, _≤_};
+ghost use mathlib.Core.Path.{_≡_};
 ghost use lib.ListN.{length};
 ghost use Rattle.buffer.specs.Bytes.{number, numberAt};
 

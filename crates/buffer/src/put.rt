@@ -1,8 +1,8 @@
 // A byte, and a number as two bytes, the highest first, put into a lent slice.
 
+ghost use Prim.Native.Nat.{_+_, _≤_};
 ghost use mathlib.Core.Path.{_≡_};
 ghost use mathlib.Core.List.{[], _∷_};
-ghost use Prim.Native.Nat.{_+_, _≤_};
 ghost use lib.ListN.{length};
 ghost use Rattle.buffer.specs.Bytes.{twoBytes};
 ghost use Rattle.buffer.specs.Write.{write};

@@ -1,5 +1,4 @@
 pub mod Added
-pub mod Agree
 pub mod Extend
 pub mod Gathered
 pub mod Inserted

@@ -5,8 +5,8 @@ use Prim.Native.Nat.{ℕ, _+_, _*_, _≤_, _<_}
 use mathlib.Core.List.{List, _++_}
 use lib.ListN.{take, drop}
 use Rattle.literal.specs.declared.Limits.{Limits}
+use Rattle.set.specs.Code.{setHeader}
 use Rattle.keys.specs.Code.{keyBytes}
-use Rattle.litset.specs.Code.{setHeader}
 
 -- the marks that a program's rules may add, no more than a rule has options
 abbrev pub most : ℕ

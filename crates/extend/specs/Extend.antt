@@ -1,5 +1,5 @@
 -- The extension as bytes (01, "Extend"): as quotient, and an A: record.
--- In order: ascending without duplicates; the extension as a list; as bytes. Not here: the marks (`marks`).
+-- In order: ascending without duplicates; the extension as a list; as bytes. Not here: the marks (`extend_marks`).
 -- Assumes nothing.
 use Prim.Native.Nat.{ℕ}
 use mathlib.Core.Bool.{true, false}
@@ -10,16 +10,16 @@ use Rattle.literal.specs.Order.{before}
 use Rattle.semantics.specs.Set.{setOf}
 use Rattle.semantics.specs.Rule.{Program}
 use Rattle.record.specs.Result.{Result, accepted, Outcome, delivered}
-use Rattle.litset.specs.Layout.{encodedSet}
+use Rattle.set.specs.Layout.{encodedSet}
 use Rattle.inputs.specs.Inputs.{withInputs}
-use Rattle.marks.specs.Marks.{marksFrom}
+use Rattle.extend_marks.specs.Marks.{marksFrom}
 
 -- an ascending list with one literal more, once
 unfoldable pub inserted : Literal → List Literal → List Literal
 inserted l [] = l ∷ []
 inserted l (m ∷ ls) =
     elim (before l m) [
-      | true ↦ l ∷ (m ∷ ls)
+      | true ↦ l ∷ m ∷ ls
       | false ↦ elim (before m l) [ true ↦ m ∷ inserted l ls | false ↦ m ∷ ls ]
     ]
 

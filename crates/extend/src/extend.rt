@@ -1,32 +1,33 @@
 // The extension of a source set: the program and the set are read, the marks gathered and sorted, and the record written.
 
-use emit::copy::copy;
+use extend_marks::marks::collect_marks;
 use inputs::read::read_inputs;
 use keys::write::write_keys;
+use keys_sort::sort::sort_keys;
 use literal::Limits;
 use literal::form::Source;
-use litset::header::write_set_header;
-use marks::marks::collect_marks;
 use record::Reading;
 use record::Reason;
 use record::Refusal;
 use record::Written;
-use sorting::sort::sort_keys;
+use record_write::copy::copy;
+use set::header::write_set_header;
+ghost use Prim.Native.Nat.{_+_, _*_, _≤_, _<_};
 ghost use mathlib.Core.Path.{_≡_};
 ghost use mathlib.Core.List.{map};
-ghost use Prim.Native.Nat.{_+_, _*_, _≤_, _<_};
 ghost use lib.ListN.{length, take};
 ghost use Rattle.buffer.specs.Write.{write};
 ghost use Rattle.literal.specs.Order.{key};
 ghost use Rattle.literal.specs.Limits.{source};
 ghost use Rattle.record.specs.Meets.{Meets};
+ghost use Rattle.record_walk.specs.Code.{Holds};
+ghost use Rattle.set.specs.Code.{Ascends, keySet};
+ghost use Rattle.inputs.specs.Code.{Inputs};
 ghost use Rattle.keys.specs.Keys.{sortedKeys};
 ghost use Rattle.keys.specs.Code.{Fitting};
-ghost use Rattle.sorting.specs.Code.{Sorted};
-ghost use Rattle.litset.specs.Code.{Ascends, keySet};
-ghost use Rattle.inputs.specs.Code.{Inputs};
-ghost use Rattle.marks.specs.Marks.{marksFrom};
-ghost use Rattle.marks.specs.Code.{Marking};
+ghost use Rattle.keys_sort.specs.Code.{Sorted};
+ghost use Rattle.extend_marks.specs.Marks.{marksFrom};
+ghost use Rattle.extend_marks.specs.Code.{Markable};
 ghost use Rattle.extend.specs.Extend.{extended};
 ghost use Rattle.extend.specs.Code.{most, Extendable, joined};
 
@@ -37,9 +38,9 @@ const MOST: usize = 4096;
 fn gather_marks(s: &[u8], set: &[u8], count: usize, keys: &mut [u64]) -> usize
     requires { ⌜ 4 + 5 * count ≤ length (now set) ⌝ }
     requires { ⌜ Ascends (now set) count ⌝ }
-    requires { ⌜ Marking (now s) (length (now keys)) ⌝ }
+    requires { ⌜ Holds (Markable (length (now keys))) (now s) ⌝ }
     requires { ⌜ length (now keys) ≤ most ⌝ }
-    ensures { λ r. ⌜ ((w : Marking (now (s .entry)) (length (now (keys .entry)))) → Sorted (now (keys .entry)) (now (keys .exit)) r (sortedKeys (map key (marksFrom 1 (w .program) (keySet (now (set .entry)) count))))) ⌝ }
+    ensures { λ r. ⌜ ((w : Holds (Markable (length (now (keys .entry)))) (now (s .entry))) → Sorted (now (keys .entry)) (now (keys .exit)) r (sortedKeys (map key (marksFrom 1 (w .program) (keySet (now (set .entry)) count))))) ⌝ }
 {
     let mut spare = [0u64; MOST];
     let n = collect_marks(s, set, count, keys);

@@ -10,7 +10,7 @@ use Rattle.semantics.specs.Rule.{Program}
 use Rattle.record.specs.declared.Reading.{Reading}
 use Rattle.record.specs.Result.{accepted}
 use Rattle.record.specs.Reading.{parsed, readingOf}
-use Rattle.litset.specs.Reading.{parsedSet}
+use Rattle.set.specs.Reading.{parsedSet}
 use Rattle.inputs.specs.Inputs.{withInputs}
 
 -- how many literals the set has

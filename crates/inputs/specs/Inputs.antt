@@ -7,7 +7,7 @@ use Rattle.literal.specs.declared.Literal.{Literal}
 use Rattle.semantics.specs.Rule.{Program}
 use Rattle.record.specs.Result.{Result, andThen}
 use Rattle.record.specs.Reading.{parsed}
-use Rattle.litset.specs.Reading.{parsedSet}
+use Rattle.set.specs.Reading.{parsedSet}
 
 -- the program's refusals, then those of a set of at most `most` literals, then what an operation makes of the two
 unfoldable pub withInputs : {A : Type 0} → Limits → ℕ → List ℕ → List ℕ → (Program → List Literal → Result A) → Result A

@@ -1,9 +1,9 @@
 // Reading a program and then a set: a refusal met in the program ends the call before the set is read.
 
 use literal::Limits;
-use litset::read::read_set;
-use reading::read::read;
 use record::Reading;
+use record_read::read::read;
+use set::read::read_set;
 ghost use mathlib.Core.Path.{_≡_};
 ghost use Rattle.inputs.specs.Code.{inputsReading};
 

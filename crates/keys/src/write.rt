@@ -2,8 +2,8 @@
 
 use buffer::put::put_byte;
 use buffer::put::put_number;
-ghost use mathlib.Core.Path.{_≡_};
 ghost use Prim.Native.Nat.{_+_, _*_, _≤_, _<_};
+ghost use mathlib.Core.Path.{_≡_};
 ghost use lib.ListN.{length, take};
 ghost use Rattle.buffer.specs.Write.{write};
 ghost use Rattle.keys.specs.Code.{bytesOf, keyBytes, Fitting};

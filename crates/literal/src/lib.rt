@@ -1,6 +1,6 @@
 // Literals of defeasible programs, and the limits of the two forms.
-// A literal is five bytes: kind (1), tag (2), atom or rule number (2), the highest byte first. `fields` puts them, `decode`
-// reads them; what they are is defined here.
+// A literal is five bytes: kind (1), tag (2), atom or rule number (2), the highest byte first. `literal_fields` puts them,
+// `literal_decode` reads them; what they are is defined here.
 
 // A tag of defeasible rules, 1 to 200. Rules share tags, so a tag is no rule number.
 pub struct Tag(pub u16);

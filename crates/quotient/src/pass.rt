@@ -1,26 +1,25 @@
 // The quotient of a program that was read by a set that was read: measured, and then written, in one pass each.
 
-use emit::records::write_end;
-use record::size::record_size;
-use remainder::remainder::measure_remainder;
-use remainder::remainder::write_remainder;
+use quotient_rule::remainder::measure_remainder;
+use quotient_rule::remainder::write_remainder;
+use record_walk::size::record_size;
+use record_write::records::write_end;
+ghost use Prim.Native.Nat.{_+_, _*_, _≤_};
 ghost use mathlib.Core.Path.{_≡_};
 ghost use mathlib.Core.Bool.{cond};
-ghost use Prim.Native.Nat.{_+_, _*_, _≤_};
 ghost use lib.Dec.{leb, eqb};
 ghost use lib.ListN.{length};
 ghost use Rattle.buffer.specs.Write.{write};
-ghost use Rattle.semantics.specs.Rule.{Program};
-ghost use Rattle.record.specs.Layout.{encodedProgram};
-ghost use Rattle.litset.specs.Code.{Ascends, keySet};
-ghost use Rattle.quotient.specs.Code.{quotientOf, Holds};
+ghost use Rattle.record_walk.specs.Code.{Holds};
+ghost use Rattle.set.specs.Code.{Ascends, keySet};
+ghost use Rattle.quotient.specs.Code.{quotientOf, Countable, Fitting};
 
 // The length of the quotient.
 fn measure_quotient(s: &[u8], set: &[u8], count: usize) -> usize
-    requires { ⌜ Holds (now s) ⌝ }
+    requires { ⌜ Holds Countable (now s) ⌝ }
     requires { ⌜ 4 + 5 * count ≤ length (now set) ⌝ }
     requires { ⌜ Ascends (now set) count ⌝ }
-    ensures { λ r. ⌜ ((p : Program) → now (s .entry) ≡ encodedProgram p → r ≡ length (quotientOf p (keySet (now (set .entry)) count))) ⌝ }
+    ensures { λ r. ⌜ ((w : Holds Countable (now (s .entry))) → r ≡ length (quotientOf (w .program) (keySet (now (set .entry)) count))) ⌝ }
 {
     let mut at: usize = 0;
     let mut total: usize = 4;
@@ -42,10 +41,10 @@ fn count_record(size: usize) -> usize
 // Whether the quotient is no longer than `room`. It is never longer than the program, so that where there is room for that
 // nothing is measured.
 pub fn is_room(s: &[u8], set: &[u8], count: usize, room: usize) -> bool
-    requires { ⌜ Holds (now s) ⌝ }
+    requires { ⌜ Holds Countable (now s) ⌝ }
     requires { ⌜ 4 + 5 * count ≤ length (now set) ⌝ }
     requires { ⌜ Ascends (now set) count ⌝ }
-    ensures { λ r. ⌜ ((p : Program) → now (s .entry) ≡ encodedProgram p → r ≡ leb (length (quotientOf p (keySet (now (set .entry)) count))) room) ⌝ }
+    ensures { λ r. ⌜ ((w : Holds Countable (now (s .entry))) → r ≡ leb (length (quotientOf (w .program) (keySet (now (set .entry)) count))) room) ⌝ }
 {
     if s.len() <= room {
         return true;
@@ -55,12 +54,11 @@ pub fn is_room(s: &[u8], set: &[u8], count: usize, room: usize) -> bool
 
 // The quotient, written to the start of `out`: its length. Each byte is written once.
 pub fn write_quotient(s: &[u8], set: &[u8], count: usize, out: &mut [u8]) -> usize
-    requires { ⌜ Holds (now s) ⌝ }
+    requires { ⌜ Holds (Fitting (keySet (now set) count) (length (now out))) (now s) ⌝ }
     requires { ⌜ 4 + 5 * count ≤ length (now set) ⌝ }
     requires { ⌜ Ascends (now set) count ⌝ }
-    requires { ⌜ ((p : Program) → now s ≡ encodedProgram p → length (quotientOf p (keySet (now set) count)) ≤ length (now out)) ⌝ }
-    ensures { λ r. ⌜ ((p : Program) → now (s .entry) ≡ encodedProgram p → r ≡ length (quotientOf p (keySet (now (set .entry)) count))) ⌝ }
-    ensures { λ _. ⌜ ((p : Program) → now (s .entry) ≡ encodedProgram p → now (out .exit) ≡ write (now (out .entry)) 0 (quotientOf p (keySet (now (set .entry)) count))) ⌝ }
+    ensures { λ r. ⌜ ((w : Holds (Fitting (keySet (now (set .entry)) count) (length (now (out .entry)))) (now (s .entry))) → r ≡ length (quotientOf (w .program) (keySet (now (set .entry)) count))) ⌝ }
+    ensures { λ _. ⌜ ((w : Holds (Fitting (keySet (now (set .entry)) count) (length (now (out .entry)))) (now (s .entry))) → now (out .exit) ≡ write (now (out .entry)) 0 (quotientOf (w .program) (keySet (now (set .entry)) count))) ⌝ }
 {
     let mut at: usize = 0;
     let mut made: usize = 0;

@@ -1,5 +1,7 @@
 pub mod Result
 pub mod Layout
+pub mod Fit
+pub mod Keeps
 pub mod Steps
 pub mod Marks
 pub mod Literals
@@ -7,7 +9,6 @@ pub mod Body
 pub mod Header
 pub mod Program
 pub mod Places
-pub mod Size
 pub mod Sound
 pub mod Complete
 pub mod Reading

@@ -1,8 +1,8 @@
 -- What the reader's functions answer, from what the definitions of `Reading` give: a function keeps a rule's length
--- where the definition gives the rule; and how code goes from one record to the next.
--- In order: a run of literals; the kinds of head literals; one record; the length of a rule's record.
+-- where the definition gives the rule.
+-- In order: a run of literals; the kinds of head literals; one record.
 -- Assumes nothing.
-use Prim.Native.Nat.{ℕ, zero, suc, _+_, _*_}
+use Prim.Native.Nat.{ℕ, zero, suc, _+_}
 use mathlib.Core.Bool.{Bool, true, _&&_}
 use mathlib.Core.List.{List}
 use lib.Dec.{leb}
@@ -28,7 +28,3 @@ unfoldable pub stepOf : Result Entry → Step
 stepOf (accepted (rule r size)) = Step.Rule size
 stepOf (accepted end) = Step.End
 stepOf (refused x) = Step.Refused x
-
--- the length of the rule's record that starts a part, by its counts
-abbrev pub recordSize : List ℕ → ℕ
-recordSize t = 7 + 5 * (getD t 4 0 + getD t 5 0 + getD t 6 0)

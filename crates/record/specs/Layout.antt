@@ -1,6 +1,6 @@
 -- The layout of records (01, "Records"), and programs as bytes.
 -- In order: literals; a header; a rule's record; the end record; a program; a program within a form's limits.
--- Not here: A: records (`litset`), R: records (`Refusal`).
+-- Not here: A: records (`set`), R: records (`Refusal`).
 -- Assumes nothing.
 use Prim.Native.Nat.{ℕ}
 use mathlib.Core.Bool.{Bool, _&&_}
@@ -14,25 +14,22 @@ use Rattle.literal.specs.declared.Literal.the-variants.{Signed}
 use Rattle.literal.specs.Literal.{encoded}
 use Rattle.semantics.specs.Rule.{Rule, strict, defeasible, Program}
 use Rattle.semantics.specs.Form.{keepsRules}
+use Rattle.record.specs.Header.{strictLetter, defeasibleLetter, endLetter, colon}
 
 -- literals one behind the other
 unfoldable pub encodedLiterals : List Literal → List ℕ
 encodedLiterals [] = []
 encodedLiterals (l ∷ ls) = encoded l ++ encodedLiterals ls
 
--- the second byte of each mark; the first is the record's letter
-abbrev pub colon : ℕ
-colon = 0x3A
-
 -- a rule's record: letter, tag (2 bytes), head count, positive count, naf count (1 byte each), the literals in that order
 unfoldable pub ruleRecord : ℕ → ℕ → List Literal → List Literal → List Literal → List ℕ
 ruleRecord letter tag h b c =
-    letter ∷ (colon ∷ (twoBytes tag ++ (length h ∷ (length b ∷ (length c ∷ encodedLiterals (h ++ (b ++ c)))))))
+    letter ∷ colon ∷ (twoBytes tag ++ (length h ∷ length b ∷ length c ∷ encodedLiterals (h ++ (b ++ c))))
 
 -- S: a strict rule, with tag 0; D: a defeasible rule
 unfoldable pub encodedRule : Rule → List ℕ
-encodedRule (strict h b c) = ruleRecord 0x53 0 h b c
-encodedRule (defeasible t h b c) = ruleRecord 0x44 (t .0) (map Signed h) b c
+encodedRule (strict h b c) = ruleRecord strictLetter 0 h b c
+encodedRule (defeasible t h b c) = ruleRecord defeasibleLetter (t .0) (map Signed h) b c
 
 unfoldable pub encodedRules : Program → List ℕ
 encodedRules [] = []
@@ -40,7 +37,7 @@ encodedRules (r ∷ p) = encodedRule r ++ encodedRules p
 
 -- E: the end record: the number of rules (2 bytes)
 unfoldable pub encodedEnd : ℕ → List ℕ
-encodedEnd n = 0x45 ∷ (colon ∷ twoBytes n)
+encodedEnd n = endLetter ∷ colon ∷ twoBytes n
 
 -- a program: its rules' records in order, and the end record
 unfoldable pub encodedProgram : Program → List ℕ

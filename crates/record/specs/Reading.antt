@@ -14,8 +14,7 @@ use Rattle.literal.specs.declared.Limits.{Limits}
 use Rattle.literal.specs.declared.SignedAtom.{SignedAtom}
 use Rattle.literal.specs.declared.Literal.{Literal}
 use Rattle.literal.specs.declared.Literal.the-variants.{Signed, Defeated, Derived, RuleDefeated}
-use Rattle.literal.specs.Literal.{Valid, Wrong}
-use Rattle.literal.specs.Literal.{inRange, decoded}
+use Rattle.literal.specs.Literal.{Valid, Wrong, inRange, decoded}
 use Rattle.semantics.specs.Rule.{Rule, strict, defeasible, Program}
 use Rattle.semantics.specs.Form.{keepsCounts}
 use Rattle.record.specs.declared.Reason.the-variants.{TooLong, MarkCut, MarkWrong, HeaderCut, TooManyRules, TagWrong, TooManyLiterals, LiteralsCut, LiteralWrong, HeadWrong, EndWrong}
@@ -23,9 +22,9 @@ use Rattle.record.specs.declared.Mark.{Mark}
 use Rattle.record.specs.declared.Mark.the-variants.{RuleMark, EndMark, NoMark}
 use Rattle.record.specs.declared.Reading.{Reading}
 use Rattle.record.specs.declared.Reading.the-variants.{Count, Refused}
+use Rattle.record.specs.Header.{strictLetter, defeasibleLetter, endLetter, letterOf, headCount, positiveCount, nafCount, colon}
 use Rattle.record.specs.Refusal.{refusal, shifted}
 use Rattle.record.specs.Result.{Result, accepted, refused, andThen, refuseIf}
-use Rattle.record.specs.Layout.{colon}
 
 -- what one record is: a rule and the record's length, or the end
 pub data Entry : Type 0 where
@@ -82,8 +81,8 @@ ruleAt F d n t =
     refuseIf (ltb (length t) 7) (refusal HeaderCut 0)
     (refuseIf (leb (F .rules) n) (refusal TooManyRules 0)
     (refuseIf (not (tagRight F d (numberAt t 2))) (refusal TagWrong 0)
-    (refuseIf (not (keepsCounts F (getD t 4 0) (getD t 5 0) (getD t 6 0))) (refusal TooManyLiterals 0)
-    (bodyAt F d t (getD t 4 0) (getD t 5 0) (getD t 6 0)))))
+    (refuseIf (not (keepsCounts F (headCount t) (positiveCount t) (nafCount t))) (refusal TooManyLiterals 0)
+    (bodyAt F d t (headCount t) (positiveCount t) (nafCount t)))))
 
 -- the end record, where n rules are held: 2 if it is cut; 8 for a wrong number or bytes behind it
 unfoldable pub endAt : ℕ → List ℕ → Result Entry
@@ -93,7 +92,7 @@ endAt n t =
 
 -- the part starts with this letter's mark
 unfoldable pub marked : ℕ → List ℕ → Bool
-marked letter t = eqb (getD t 0 0) letter && eqb (getD t 1 0) colon
+marked letter t = eqb (letterOf t) letter && eqb (getD t 1 0) colon
 
 unfoldable pub pickMark : Bool → Bool → Bool → Mark
 pickMark true d e = RuleMark false
@@ -103,7 +102,7 @@ pickMark false false false = NoMark
 
 -- the marks of a form: S: and E:, and D: where it has defeasible rules
 unfoldable pub markAt : Limits → List ℕ → Mark
-markAt F t = pickMark (marked 0x53 t) (marked 0x44 t && F .defeasible) (marked 0x45 t)
+markAt F t = pickMark (marked strictLetter t) (marked defeasibleLetter t && F .defeasible) (marked endLetter t)
 
 unfoldable pub markedRecord : Limits → Mark → ℕ → List ℕ → Result Entry
 markedRecord F (RuleMark d) n t = ruleAt F d n t

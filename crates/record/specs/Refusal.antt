@@ -6,6 +6,7 @@ use Rattle.buffer.specs.Bytes.{fourBytes}
 use Rattle.record.specs.declared.Reason.{Reason}
 use Rattle.record.specs.declared.Reason.the-variants.{TooLong, MarkCut, MarkWrong, HeaderCut, TooManyRules, TagWrong, TooManyLiterals, LiteralsCut, LiteralWrong, HeadWrong, EndWrong, OutputShort, SetWrong, SetTooLarge, MemberWrong, NoSuchRule}
 use Rattle.record.specs.declared.Refusal.{Refusal}
+use Rattle.record.specs.Header.{refusalLetter, colon}
 
 -- the number of each reason, in the order in which an operation tries them
 abbrev pub reasonNumber : Reason → ℕ
@@ -40,4 +41,4 @@ shifted at x = record { reason = x .reason; place = at + x .place }
 
 -- the R: record: number (1 byte), place (4 bytes)
 unfoldable pub encodedRefusal : Refusal → List ℕ
-encodedRefusal x = 0x52 ∷ (0x3A ∷ (refusalNumber x ∷ fourBytes (x .place)))
+encodedRefusal x = refusalLetter ∷ colon ∷ refusalNumber x ∷ fourBytes (x .place)

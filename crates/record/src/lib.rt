@@ -80,4 +80,3 @@ pub enum Step {
 }
 
 pub mod number;
-pub mod size;

@@ -8,8 +8,8 @@ use Rattle.literal.specs.declared.Limits.{Limits}
 use Rattle.literal.specs.declared.Literal.{Literal}
 use Rattle.semantics.specs.Extension.{sourceKind}
 use Rattle.record.specs.Result.{Result, accepted, andThen, Outcome, delivered}
-use Rattle.litset.specs.Layout.{encodedSet}
-use Rattle.litset.specs.Reading.{parsedSet}
+use Rattle.set.specs.Layout.{encodedSet}
+use Rattle.set.specs.Reading.{parsedSet}
 
 -- the literals of kinds 0 to 3, in order
 unfoldable pub restrictionList : List Literal → List Literal

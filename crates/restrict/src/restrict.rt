@@ -1,16 +1,16 @@
 // Restricting: the set is read, its literals of source kinds are counted, and they are copied behind a new count.
 
-use emit::copy::copy;
 use literal::Limits;
 use literal::form::Plain;
-use litset::header::write_set_header;
-use litset::read::read_set;
 use record::Reading;
 use record::Reason;
 use record::Refusal;
 use record::Written;
-ghost use mathlib.Core.Path.{_≡_};
+use record_write::copy::copy;
+use set::header::write_set_header;
+use set::read::read_set;
 ghost use Prim.Native.Nat.{_+_, _*_, _≤_};
+ghost use mathlib.Core.Path.{_≡_};
 ghost use lib.ListN.{length};
 ghost use Rattle.literal.specs.Limits.{plain};
 ghost use Rattle.record.specs.Meets.{Meets};

@@ -15,14 +15,14 @@ use Rattle.semantics.specs.Match.{FormMatch}
 use Rattle.semantics.proofs.Laws.Tests.{all-mem}
 use Rattle.semantics.proofs.Laws.Extension.{extension-injective, restriction-source}
 use Rattle.semantics.proofs.Laws.Heads.{answer-set-head}
-use Rattle.semantics.proofs.Laws.Form.{keeps-each, keeps-head, takes-source, source-rules, Covers, extension-within}
+use Rattle.semantics.proofs.Laws.Form.{keeps-each, kept, takes-source, source-rules, Covers, extension-within}
 use Rattle.semantics.proofs.Match.{extension-iff, extension-restriction}
 
 -- an answer set of a program within a form's limits is a set of the form's literals
 pub answer-set-within : (F : Limits) (p : Program) → T (keepsRules F p) → (s : LiteralSet) → AnswerSet p s → SetOf F s
 answer-set-within F p k s a l y =
     let w = answer-set-head a l y in
-    all-mem (takes F) (keeps-head F (w .0) (all-mem (keepsRule F) (keeps-each F p k) (w .1))) (w .2)
+    all-mem (takes F) (kept F (w .0) (all-mem (keepsRule F) (keeps-each F p k) (w .1)) .head-taken) (w .2)
 
 module _ (F G : Limits) (kinds : mostKind (F .kinds) ≤ 3) (covers : Covers F G) (p : Program) (k : T (keepsRules F p)) where
   source-set : (s : LiteralSet) → SetOf F s → SourceSet s
@@ -47,6 +47,7 @@ module _ (F G : Limits) (kinds : mostKind (F .kinds) ≤ 3) (covers : Covers F G
               set = restriction m;
               within = answer-set-within F p k (restriction m) (restricted m a);
               extends = extension-restriction p sources m a;
-              only = λ s inside e. extension-injective p s (restriction m) (source-set s inside) (restriction-source m) (e ∙ sym (extension-restriction p sources m a));
+              only = λ s inside e.
+                  extension-injective p s (restriction m) (source-set s inside) (restriction-source m) (e ∙ sym (extension-restriction p sources m a));
             };
       }

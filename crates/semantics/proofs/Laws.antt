@@ -1,10 +1,12 @@
 pub mod Tests
 pub mod Set
 pub mod Meaning
+pub mod Agree
 pub mod Position
 pub mod Translation
 pub mod Extension
 pub mod Heads
+pub mod Wider
 pub mod Form
 pub mod Length
 pub mod Part

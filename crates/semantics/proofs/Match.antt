@@ -87,7 +87,9 @@ module _ (p : Program) (sources : T (eachOf sourceRule p)) (s : LiteralSet) (sou
   marked-agree v sub l k = go l k
     where
       test : (l : Literal) → T (sourceKind l) → (extension p s l && v l) ≡ v l
-      test l k = same-test (extension p s l && v l) (v l) (λ y. second (extension p s l) (v l) y) (λ y. both (extension p s l) (v l) (along (sym (extension-agree p s l k)) (sub l y)) y)
+      test l k =
+          same-test (extension p s l && v l) (v l) (λ y. second (extension p s l) (v l) y)
+          (λ y. both (extension p s l) (v l) (along (sym (extension-agree p s l k)) (sub l y)) y)
 
       go : (l : Literal) → T (sourceKind l) → (extension p s l && under v l) ≡ v l
       go (Signed a) k = test (Signed a) k
@@ -121,13 +123,18 @@ module _ (p : Program) (sources : T (eachOf sourceRule p)) (s : LiteralSet) (sou
                 let w =
                 k (λ y. absent (along (sym (any-source c e (source-naf-of t h b c source-r))) y))
                 (λ d. left (defeated-extension p s (record { 0 = n }) at d))
-                (along (all-source b f (source-positive-of t h b c source-r)) body) in
-                (w .0, w .1, both (extension p s (Derived t (w .0))) (v (Signed (w .0))) (derived-extension p s at (w .1) (sub (Signed (w .0)) (w .3)) (w .2)) (w .3));
+                (along (all-source b f (source-positive-of t h b c source-r)) body) in (
+                  w .0,
+                  w .1,
+                  both (extension p s (Derived t (w .0))) (v (Signed (w .0)))
+                      (derived-extension p s at (w .1) (sub (Signed (w .0)) (w .3)) (w .2)) (w .3),
+                );
             ruled =
                 λ d.
                 both (extension p s (ruleDefeated n)) true
                 (defeated-extension p s (record { 0 = n }) at
-                (all-intro (λ a. s (Defeated t a)) h (λ a m. sub (Defeated t a) (along (agree-defeated f t a) (all-mem (λ a. markedSet v (Defeated t a)) d m))))) tt;
+                (all-intro (λ a. s (Defeated t a)) h
+                (λ a m. sub (Defeated t a) (along (agree-defeated f t a) (all-mem (λ a. markedSet v (Defeated t a)) d m))))) tt;
             holds = λ {a} m d. along (sym (agree-signed f a)) (second (extension p s (Derived t a)) (v (Signed a)) d);
             derived =
                 λ {a} m y left.
@@ -141,7 +148,8 @@ module _ (p : Program) (sources : T (eachOf sourceRule p)) (s : LiteralSet) (sou
           }
 
   -- the source literals of a model of the translation's quotient are a model of p's
-  restricted-models : (u : LiteralSet) → Subset u (extension p s) → T (models (quotient (translation p) (extension p s)) u) → T (models (quotient p s) (restriction u))
+  restricted-models : (u : LiteralSet) → Subset u (extension p s) → T (models (quotient (translation p) (extension p s)) u)
+      → T (models (quotient p s) (restriction u))
   unfolding defeatedRule
   restricted-models u sub m = at-models 1 p s (restriction u) (λ n r at. go n r at (models-translation p (extension p s) u m at) (all-at sourceRule sources at))
     where
@@ -157,8 +165,12 @@ module _ (p : Program) (sources : T (eachOf sourceRule p)) (s : LiteralSet) (sou
           λ absent left body.
           let w =
           k .chosen (λ y. absent (along (any-source c e (source-naf-of t h b c source-r)) y)) (λ y. left (defeated-rule at y))
-          (along (all-source b f (source-positive-of t h b c source-r)) body) in
-          (w .0, w .1, extension-derived p s source t (w .0) (sub (Derived t (w .0)) (w .2)) .undefeated, along (sym (agree-signed f (w .0))) (k .holds (w .1) (w .2)))
+          (along (all-source b f (source-positive-of t h b c source-r)) body) in (
+            w .0,
+            w .1,
+            extension-derived p s source t (w .0) (sub (Derived t (w .0)) (w .2)) .undefeated,
+            along (sym (agree-signed f (w .0))) (k .holds (w .1) (w .2)),
+          )
 
 -- a model u of the translation's quotient by a set that agrees with s has, with s, every mark of the extension
 extension-contained : (p : Program) (s : LiteralSet) → SourceSet s → (r u : LiteralSet) → Agree r s → T (models (quotient (translation p) r) u)
@@ -229,7 +241,8 @@ module _ (p : Program) (sources : T (eachOf sourceRule p)) where
 
       contained : (v : LiteralSet) → Subset v s → T (models (quotient p s) v) → Subset s v
       contained v sub m l y =
-          let all-marked = answer-set-contains a (markedSet p sources s source v) (marked-subset p sources s source v) (marked-models p sources s source v sub m) in
+          let all-marked = answer-set-contains a (markedSet p sources s source v) (marked-subset p sources s source v)
+          (marked-models p sources s source v sub m) in
           along (marked-agree p sources s source v sub l (source l y)) (all-marked l (along (sym (e l (source l y))) y))
 
   -- the part of m within the extension of its restriction is a model of the translation's quotient, where m is one
@@ -271,7 +284,8 @@ module _ (p : Program) (sources : T (eachOf sourceRule p)) where
                 in-part (ruleDefeated n)
                 (k .ruled (all-intro (λ a. m (Defeated t a)) h (λ a w. of-m (Defeated t a) (all-mem (λ a. part m (Defeated t a)) d w))))
                 (defeated-extension p s (record { 0 = n }) at
-                (all-intro (λ a. s (Defeated t a)) h (λ a w. along (sym (agree-defeated e t a)) (of-m (Defeated t a) (all-mem (λ a. part m (Defeated t a)) d w)))));
+                (all-intro (λ a. s (Defeated t a)) h
+                (λ a w. along (sym (agree-defeated e t a)) (of-m (Defeated t a) (all-mem (λ a. part m (Defeated t a)) d w)))));
             holds = λ {a} w d. along (sym (agree-signed (part-agree m) a)) (k .holds w (of-m (Derived t a) d));
             derived =
                 λ {a} w z left.
@@ -289,7 +303,8 @@ module _ (p : Program) (sources : T (eachOf sourceRule p)) where
   extension-restriction m a =
       set-ext (extension p (restriction m)) m
       (extension-contained p (restriction m) (restriction-source m) m m (agree-sym (restriction-agree m)) (a .model) (restriction-subset m))
-      (λ l y. second (m l) (extension p (restriction m) l) (answer-set-contains a (part m) (λ l z. first (m l) (extension p (restriction m) l) z) (part-models m (a .model)) l y))
+      (λ l y. second (m l) (extension p (restriction m) l)
+      (answer-set-contains a (part m) (λ l z. first (m l) (extension p (restriction m) l) z) (part-models m (a .model)) l y))
 
   -- the match, for every list of rules and every set over kinds 0 to 3, also with a clash
   pub extension-iff : (s : LiteralSet) → SourceSet s → AnswerSet p s ↔ AnswerSet (translation p) (extension p s)

@@ -1,6 +1,6 @@
 -- Sets of literals (01, "Meaning": they may hold any number of literals, and may hold a clash).
 -- In order: sets; which literals of a list a set holds; subsets; when two literals are the same; a list as a set.
--- Not here: which literals a form takes (`Form`), A: records (`litset`).
+-- Not here: which literals a form takes (`Form`), A: records (`set`).
 -- Assumes nothing.
 use mathlib.Core.Path.{_≡_}
 use mathlib.Core.Bool.{Bool, true, false, _&&_, _||_}

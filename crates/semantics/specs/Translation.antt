@@ -36,7 +36,7 @@ unfoldable pub neverBoth : Tag → SignedAtom → Rule
 neverBoth t a = strict [] (Derived t a ∷ (Defeated t a ∷ [])) []
 
 unfoldable pub option : Tag → SignedAtom → List Rule
-option t a = holdsIfDerived t a ∷ (derivedIfHolds t a ∷ (neverBoth t a ∷ []))
+option t a = holdsIfDerived t a ∷ derivedIfHolds t a ∷ neverBoth t a ∷ []
 
 -- (4), (5) and (6) for each option in order; one that is repeated is treated at each occurrence
 unfoldable pub options : Tag → List SignedAtom → List Rule

@@ -1,6 +1,6 @@
 -- The check of a proposed set, given as a list in ascending order (01, "Check"), on programs.
 -- In order: what a check finds; the first clash; the first broken rule; the first subset that passes a test; the first
--- smaller model; the finding. Not here: bytes, places, the lent output (`verdict`).
+-- smaller model; the finding. Not here: bytes, places, the lent output (`check_set`).
 -- Assumes nothing.
 use Prim.Native.Nat.{ℕ, _+_}
 use mathlib.Core.Bool.{Bool, false, cond, not, _&&_}

@@ -1,3 +1,4 @@
-// Translating a source program into a plain one.
+// Translating a source into a plain program: the source is read, its translation measured, and then written rule by rule.
 
+mod pass;
 pub mod translate;

@@ -1,15 +1,17 @@
-// Translating: the source is measured, and then each rule's translation is written, in one pass each.
+// Translating: the source is read, its translation measured, and then written.
 
+use crate::pass::measure_rules;
+use crate::pass::write_rules;
 use literal::Limits;
 use literal::form::Source;
-use measure::measure::measure_source;
+use record::Reading;
 use record::Reason;
 use record::Refusal;
 use record::Written;
-use rewrite::pass::write_rules;
+use record_read::read::read;
 ghost use Rattle.literal.specs.Limits.{source};
 ghost use Rattle.record.specs.Meets.{Meets};
-ghost use Rattle.measure.specs.Code.{Writable};
+ghost use Rattle.translate.specs.Code.{Writable};
 ghost use Rattle.translate.specs.Translate.{translated};
 
 // The translation of the program that `s` holds in a form, written to the start of `out`.
@@ -17,18 +19,21 @@ fn translate(lim: Limits, s: &[u8], out: &mut [u8]) -> Written
     requires { ⌜ Writable lim ⌝ }
     ensures { λ r. ⌜ Meets (translated lim (now (s .entry)) (now (out .entry))) r (now (out .exit)) ⌝ }
 {
-    let measured = measure_source(lim, s);
-    let Written::Length(n) = measured else {
-        return measured;
-    };
-    if out.len() < n {
-        return Written::Refused(Refusal {
-            reason: Reason::OutputShort,
-            place: 0,
-        });
+    let read = read(lim, s);
+    match read {
+        Reading::Refused(x) => Written::Refused(x),
+        Reading::Count(_) => {
+            let n = measure_rules(s);
+            if out.len() < n {
+                return Written::Refused(Refusal {
+                    reason: Reason::OutputShort,
+                    place: 0,
+                });
+            }
+            write_rules(s, out);
+            Written::Length(n)
+        }
     }
-    write_rules(lim, s, out);
-    Written::Length(n)
 }
 
 // The translation of a source.

@@ -1,7 +1,11 @@
 //! Each of document 01's refusal numbers, by way of the crate, for each operation that can give it: number, place, the
 //! slice and the part that it speaks of, and a reason of its own.
 
+#[path = "../../limits.rs"]
+mod limits;
+
 use aspda::{Part, Refusal, Slice};
+use limits::{PLAIN, SOURCE};
 use std::collections::BTreeSet;
 
 const ONE: &[u8] = b"S:\0\0\x01\0\0\0\0\0\0\x01E:\0\x01"; // 1
@@ -31,8 +35,8 @@ struct Operation {
     literals: usize,
 }
 
-const SOURCE: &[u8] = &[1, 2, 3, 4, 5, 6, 7, 8];
-const PLAIN: &[u8] = &[1, 2, 3, 4, 5, 6, 8];
+const READ_SOURCE: &[u8] = &[1, 2, 3, 4, 5, 6, 7, 8];
+const READ_PLAIN: &[u8] = &[1, 2, 3, 4, 5, 6, 8];
 const SHOW_SOURCE: &[u8] = &[1, 2, 3, 4, 5, 6, 7, 8, 13];
 const SHOW_PLAIN: &[u8] = &[1, 2, 3, 4, 5, 6, 8, 13];
 const SET: &[u8] = &[10, 11, 12];
@@ -47,23 +51,27 @@ fn operation(name: &'static str, numbers: [&'static [u8]; 3], literals: usize, c
 #[rustfmt::skip]
 fn operations() -> [Operation; 11] {
     [
-        operation("read_source", [SOURCE, NONE, NONE], 0, |i, _| aspda::read_source(i.program).map(drop)),
-        operation("read_plain", [PLAIN, NONE, NONE], 0, |i, _| aspda::read_plain(i.program).map(drop)),
+        operation("read_source", [READ_SOURCE, NONE, NONE], 0, |i, _| aspda::read_source(i.program).map(drop)),
+        operation("read_plain", [READ_PLAIN, NONE, NONE], 0, |i, _| aspda::read_plain(i.program).map(drop)),
         operation("show_source", [SHOW_SOURCE, NONE, NONE], 0, |i, _| aspda::show_source(i.program, i.rule).map(drop)),
         operation("show_plain", [SHOW_PLAIN, NONE, NONE], 0, |i, _| aspda::show_plain(i.program, i.rule).map(drop)),
-        operation("translate", [SOURCE, NONE, OUTPUT], 0, |i, out| aspda::translate(i.program, out).map(drop)),
-        operation("quotient_source", [SOURCE, SET, OUTPUT], 1_000, |i, out| {
+        operation("translate", [READ_SOURCE, NONE, OUTPUT], 0, |i, out| aspda::translate(i.program, out).map(drop)),
+        operation("quotient_source", [READ_SOURCE, SET, OUTPUT], SOURCE.set, |i, out| {
             aspda::quotient_source(i.program, i.set, out).map(drop)
         }),
-        operation("quotient_plain", [PLAIN, SET, OUTPUT], 5_352, |i, out| {
+        operation("quotient_plain", [READ_PLAIN, SET, OUTPUT], PLAIN.set, |i, out| {
             aspda::quotient_plain(i.program, i.set, out).map(drop)
         }),
-        operation("extend", [SOURCE, SET, OUTPUT], 1_000, |i, out| aspda::extend(i.program, i.set, out).map(drop)),
-        operation("restrict", [NONE, SET, OUTPUT], 5_352, |i, out| aspda::restrict(i.set, out).map(drop)),
-        operation("check_source", [SOURCE, SET, OUTPUT], 64, |i, out| {
+        operation("extend", [READ_SOURCE, SET, OUTPUT], SOURCE.set, |i, out| {
+            aspda::extend(i.program, i.set, out).map(drop)
+        }),
+        operation("restrict", [NONE, SET, OUTPUT], PLAIN.set, |i, out| aspda::restrict(i.set, out).map(drop)),
+        operation("check_source", [READ_SOURCE, SET, OUTPUT], SOURCE.checked, |i, out| {
             aspda::check_source(i.program, i.set, out).map(drop)
         }),
-        operation("check_plain", [PLAIN, SET, OUTPUT], 64, |i, out| aspda::check_plain(i.program, i.set, out).map(drop)),
+        operation("check_plain", [READ_PLAIN, SET, OUTPUT], PLAIN.checked, |i, out| {
+            aspda::check_plain(i.program, i.set, out).map(drop)
+        }),
     ]
 }
 
@@ -86,7 +94,7 @@ impl Operation {
 /// A program that both forms refuse by this number (7 the source form alone), and what is wrong in it.
 fn faulty_program(number: u8) -> (Vec<u8>, (Part, u32)) {
     let program: (&[u8], (Part, u32)) = match number {
-        1 => return (vec![0; 317_445], (Part::Whole, 0)),
+        1 => return (vec![0; PLAIN.length + 1], (Part::Whole, 0)),
         2 => (b"S:\0\0\0\0\0S:\0", (Part::Record, 7)),
         3 => (b"S:\0\0\0\0\0X:", (Part::Record, 7)),
         4 => (b"S:\0\0\0\0\0S:\0\0\x11\0\0", (Part::Record, 7)),
@@ -101,7 +109,7 @@ fn faulty_program(number: u8) -> (Vec<u8>, (Part, u32)) {
 
 /// So many literals, ascending: defeat marks, of which there are enough.
 fn set_of(literals: usize) -> Vec<u8> {
-    let marks = (1..=200).flat_map(|tag| (1..=250).map(move |atom| [2, 0, tag, 0, atom]));
+    let marks = (1..=SOURCE.tags as u8).flat_map(|tag| (1..=250).map(move |atom| [2, 0, tag, 0, atom]));
     let mut record = b"A:".to_vec();
     record.extend((literals as u16).to_be_bytes());
     record.extend(marks.take(literals).flatten());
@@ -188,12 +196,14 @@ fn number_9_speaks_of_the_output() {
 #[test]
 fn limits_are_those_of_the_form() {
     let refused = |answer: Result<u32, Refusal>| answer.unwrap_err().number;
-    assert_eq!(refused(aspda::read_source(&[0; 63_237])), 1);
-    assert_eq!(refused(aspda::read_plain(&[0; 63_237])), 3);
+    const TOO_LONG: &[u8] = &[0; SOURCE.length + 1];
+    assert_eq!(refused(aspda::read_source(TOO_LONG)), 1);
+    assert_eq!(refused(aspda::read_plain(TOO_LONG)), 3);
     assert_eq!(refused(aspda::read_plain(b"D:")), 3);
-    let set = set_of(65);
-    assert_eq!(aspda::check_source(ONE, &set, &mut [0; 329]).unwrap_err().number, 12);
-    assert_eq!(aspda::restrict(&set, &mut [0; 329]).unwrap(), &set[..]);
+    let set = set_of(SOURCE.checked + 1);
+    let mut out = vec![0; set.len()];
+    assert_eq!(aspda::check_source(ONE, &set, &mut out).unwrap_err().number, 12);
+    assert_eq!(aspda::restrict(&set, &mut out).unwrap(), &set[..]);
 }
 
 #[test]

@@ -5,7 +5,7 @@ use Prim.Native.Nat.{ℕ, _+_, _*_, _≤_}
 use native.Mathlib.Omega.{arith}
 use mathlib.Core.Path.{_≡_, ap}
 use mathlib.Core.List.{List}
-use lib.Dec.{T, leb}
+use lib.Dec.{T}
 use lib.ListN.{length}
 use Rattle.buffer.specs.Bytes.{Bytes}
 use Rattle.literal.specs.declared.Limits.{Limits}
@@ -13,17 +13,16 @@ use Rattle.literal.specs.declared.Literal.{Literal}
 use Rattle.semantics.specs.Rule.{Program}
 use Rattle.semantics.specs.Set.{setOf}
 use Rattle.semantics.specs.Form.{keepsRules}
-use Rattle.semantics.proofs.Laws.Tests.{first}
-use Rattle.semantics.proofs.Laws.Form.{keeps-count}
 use Rattle.record.specs.Result.{accepted}
-use Rattle.record.specs.Layout.{encodedProgram, keeps}
+use Rattle.record.specs.Layout.{encodedProgram}
 use Rattle.record.specs.Reading.{parsed}
+use Rattle.record.proofs.Laws.Keeps.{kept-program}
 use Rattle.record.proofs.Laws.Reading.{parsed-sound}
-use Rattle.litset.specs.Layout.{encodedSet}
-use Rattle.litset.specs.Reading.{parsedSet}
-use Rattle.litset.proofs.Laws.Reading.{parsed-set-sound, keeps-set-most, length-encoded-set, length-parsed-set}
+use Rattle.set.specs.Layout.{encodedSet}
+use Rattle.set.specs.Reading.{parsedSet}
+use Rattle.set.proofs.Laws.Reading.{parsed-set-sound, keeps-set-most, length-encoded-set, length-parsed-set}
 use Rattle.quotient.specs.Quotient.{quotientProgram}
-use Rattle.quotient.proofs.Laws.Short.{quotient-short}
+use Rattle.quotient.proofs.Laws.Program.{quotient-short}
 use Rattle.extend.specs.Extend.{extensionList}
 use Rattle.extend.specs.Code.{most, Extendable}
 use Rattle.extend.proofs.Laws.Kept.{length-extension}
@@ -33,11 +32,10 @@ use Rattle.restrict.proofs.Laws.Restriction.{length-restriction}
 module _ (F : Limits) (b : List ℕ) (p : Program) (bytes : Bytes b) (read : parsed F b ≡ accepted p) where
   -- it keeps the limits of rules, and has no more rules than the form
   pub rules-kept : T (keepsRules F p)
-  unfolding keeps
-  rules-kept = first (keepsRules F p) (leb (length (encodedProgram p)) (F .length)) (parsed-sound F b p bytes read .1)
+  rules-kept = kept-program F p (parsed-sound F b p bytes read .1) .rules
 
   pub read-few : length p ≤ F .rules
-  read-few = keeps-count F p rules-kept
+  read-few = kept-program F p (parsed-sound F b p bytes read .1) .count
 
   -- a quotient is no longer than its program
   pub quotient-no-longer : (ls : List Literal) → length (encodedProgram (quotientProgram p ls)) ≤ length b
@@ -48,7 +46,8 @@ module _ (F : Limits) (b : List ℕ) (p : Program) (bytes : Bytes b) (read : par
   pub extension-at-most : Extendable F → (k : List ℕ) (ls : List Literal) → Bytes k → parsedSet F (F .literals) k ≡ accepted ls
       → length (encodedSet (extensionList p ls)) ≤ 4 + 5 * (F .literals + most)
   extension-at-most ok k ls chars held =
-      omega (arith, length-encoded-set (extensionList p ls), length-extension F ok p rules-kept ls, keeps-set-most F (F .literals) ls (parsed-set-sound F (F .literals) k ls chars held .1))
+      let few = keeps-set-most F (F .literals) ls (parsed-set-sound F (F .literals) k ls chars held .1) in
+      omega (arith, length-encoded-set (extensionList p ls), length-extension F ok p rules-kept ls, few)
 
 -- a set is no longer than the literals that are taken
 pub set-no-longer : (F : Limits) (most : ℕ) (k : List ℕ) (ls : List Literal) → Bytes k → parsedSet F most k ≡ accepted ls → length k ≤ 4 + 5 * most
@@ -56,6 +55,7 @@ set-no-longer F most k ls bytes held =
     omega (arith, length-parsed-set F most k ls bytes held, keeps-set-most F most ls (parsed-set-sound F most k ls bytes held .1))
 
 -- a restriction is no longer than its set
-pub restriction-no-longer : (F : Limits) (k : List ℕ) (ls : List Literal) → Bytes k → parsedSet F (F .literals) k ≡ accepted ls → length (encodedSet (restrictionList ls)) ≤ length k
+pub restriction-no-longer : (F : Limits) (k : List ℕ) (ls : List Literal) → Bytes k → parsedSet F (F .literals) k ≡ accepted ls
+    → length (encodedSet (restrictionList ls)) ≤ length k
 restriction-no-longer F k ls bytes held =
     omega (arith, length-encoded-set (restrictionList ls), length-restriction ls, length-parsed-set F (F .literals) k ls bytes held)

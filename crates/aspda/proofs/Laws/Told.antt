@@ -19,16 +19,16 @@ use Rattle.record.proofs.Laws.Bounds.{parsed-short}
 use Rattle.record.proofs.Laws.Reading.{read-count}
 use Rattle.record.proofs.Laws.Result.{accepted-eq, and-then-accepted}
 use Rattle.record.proofs.Laws.Delivered.{delivered-refused, delivered-fits, delivered-short}
-use Rattle.showing.specs.Show.{shown}
-use Rattle.litset.specs.Reading.{parsedSet}
+use Rattle.record_show.specs.Show.{shown}
+use Rattle.set.specs.Reading.{parsedSet}
 use Rattle.inputs.specs.Inputs.{withInputs}
 use Rattle.quotient.specs.Quotient.{quotientBytes, quotiented}
 use Rattle.extend.specs.Extend.{extensionBytes, extended}
 use Rattle.extend.specs.Code.{most, Extendable}
 use Rattle.restrict.specs.Restrict.{restrictionBytes, restricted}
-use Rattle.verdict.specs.Check.{checked}
-use Rattle.word.specs.Words.{ToldReading, ToldWritten, ToldShown, ToldCheck}
-use Rattle.word.proofs.Laws.Told.{told-reading, told-written, told-shown, told-check}
+use Rattle.check_set.specs.Check.{checked}
+use Rattle.aspda_word.specs.Words.{ToldReading, ToldWritten, ToldShown, ToldCheck}
+use Rattle.aspda_word.proofs.Laws.Told.{told-reading, told-written, told-shown, told-check}
 use Rattle.aspda.proofs.Laws.Words.{shown-short}
 use Rattle.aspda.proofs.Laws.Verdicts.{checked-short}
 use Rattle.aspda.proofs.Laws.Lengths.{read-few, quotient-no-longer, extension-at-most, set-no-longer, restriction-no-longer}

@@ -20,14 +20,14 @@ use Rattle.record.specs.Result.{Result, accepted, refused, andThen, refuseIf}
 use Rattle.record.specs.Reading.{parsed}
 use Rattle.record.proofs.Laws.Bounds.{parsed-placed}
 use Rattle.record.proofs.Laws.Places.{Placed}
-use Rattle.litset.specs.Reading.{parsedSet}
+use Rattle.set.specs.Reading.{parsedSet}
+use Rattle.set.proofs.Laws.Reading.{parsed-set-sound, keeps-set-most, length-encoded-set}
+use Rattle.set.proofs.Laws.Places.{parsed-set-placed}
 use Rattle.inputs.specs.Inputs.{withInputs}
-use Rattle.litset.proofs.Laws.Reading.{parsed-set-sound, keeps-set-most, length-encoded-set}
-use Rattle.litset.proofs.Laws.Places.{parsed-set-placed}
-use Rattle.verdict.specs.declared.Check.{Check}
-use Rattle.judge.specs.Verdict.{verdictOf}
-use Rattle.verdict.specs.Check.{found, checkedOf, checked}
-use Rattle.word.specs.Code.{ShortVerdict, ShortCheck}
+use Rattle.check_set.specs.declared.Check.{Check}
+use Rattle.check_set.specs.Verdict.{verdictOf}
+use Rattle.check_set.specs.Check.{found, checkedOf, checked}
+use Rattle.aspda_word.specs.Code.{ShortVerdict, ShortCheck}
 use Rattle.aspda.proofs.Laws.Lengths.{read-few}
 
 -- a part is no longer than its list
@@ -48,7 +48,8 @@ module _ (p : Program) (ls : List Literal) (few : length p < 4294967296) (small 
   finding-short (smaller s) e = omega (arith, part-short (finding-smaller p ls s .0 e .part), length-encoded-set s)
   finding-short answerSet e = tt
 
-module _ (F : Limits) (long : F .length < 4294967296) (rules : F .rules < 4294967296) (sets : 4 + 5 * F .checked < 4294967296) (s k out : List ℕ) (bs : Bytes s) (bk : Bytes k) where
+module _ (F : Limits) (long : F .length < 4294967296) (rules : F .rules < 4294967296) (sets : 4 + 5 * F .checked < 4294967296)
+    (s k out : List ℕ) (bs : Bytes s) (bk : Bytes k) where
   Short : Result Finding → Type 0
   Short (accepted f) = ShortVerdict (verdictOf f)
   Short (refused x) = x .place < 4294967296
@@ -57,15 +58,22 @@ module _ (F : Limits) (long : F .length < 4294967296) (rules : F .rules < 429496
   unfolding found withInputs andThen refuseIf Short
   found-short = go (parsed F s) refl (parsed-placed F s)
     where
-      room : (p : Program) (ls : List Literal) → parsed F s ≡ accepted p → parsedSet F (F .checked) k ≡ accepted ls → (b : Bool) → Short (refuseIf b (refusal OutputShort 0) (accepted (finding p ls)))
+      room : (p : Program) (ls : List Literal) → parsed F s ≡ accepted p → parsedSet F (F .checked) k ≡ accepted ls → (b : Bool)
+          → Short (refuseIf b (refusal OutputShort 0) (accepted (finding p ls)))
       room p ls e q true = omega arith
-      room p ls e q false = finding-short p ls (omega (arith, rules, read-few F s p bs e)) (omega (arith, sets, keeps-set-most F (F .checked) ls (parsed-set-sound F (F .checked) k ls bk q .1))) (finding p ls) refl
+      room p ls e q false =
+          finding-short p ls (omega (arith, rules, read-few F s p bs e))
+          (omega (arith, sets, keeps-set-most F (F .checked) ls (parsed-set-sound F (F .checked) k ls bk q .1))) (finding p ls) refl
 
-      set : (p : Program) → parsed F s ≡ accepted p → (r : Result (List Literal)) → parsedSet F (F .checked) k ≡ r → Placed (4 + 5 * F .checked) r → Short (andThen r (λ ls. refuseIf (ltb (length out) (length k)) (refusal OutputShort 0) (accepted (finding p ls))))
+      set : (p : Program) → parsed F s ≡ accepted p → (r : Result (List Literal)) → parsedSet F (F .checked) k ≡ r
+          → Placed (4 + 5 * F .checked) r → Short
+          (andThen r (λ ls. refuseIf (ltb (length out) (length k)) (refusal OutputShort 0) (accepted (finding p ls))))
       set p e (accepted ls) q h = room p ls e q (ltb (length out) (length k))
       set p e (refused x) q h = omega (arith, h, sets)
 
-      go : (r : Result Program) → parsed F s ≡ r → Placed (F .length) r → Short (andThen r (λ p. andThen (parsedSet F (F .checked) k) (λ ls. refuseIf (ltb (length out) (length k)) (refusal OutputShort 0) (accepted (finding p ls)))))
+      go : (r : Result Program) → parsed F s ≡ r → Placed (F .length) r
+          → Short (andThen r (λ p. andThen (parsedSet F (F .checked) k)
+          (λ ls. refuseIf (ltb (length out) (length k)) (refusal OutputShort 0) (accepted (finding p ls)))))
       go (accepted p) e h = set p e (parsedSet F (F .checked) k) refl (parsed-set-placed F (F .checked) k)
       go (refused x) e h = omega (arith, h, long)
 

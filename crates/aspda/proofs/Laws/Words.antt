@@ -11,24 +11,24 @@ use Rattle.semantics.specs.Rule.{Program}
 use Rattle.semantics.specs.Translation.{translation}
 use Rattle.record.specs.declared.Written.{Written}
 use Rattle.record.specs.declared.Reading.{Reading}
-use Rattle.showing.specs.declared.Shown.{Shown}
 use Rattle.record.specs.Result.{Result, accepted, refused, andThen, delivered}
 use Rattle.record.specs.Layout.{encodedProgram}
 use Rattle.record.specs.Reading.{parsed, reading}
-use Rattle.showing.specs.Show.{shown}
 use Rattle.record.proofs.Laws.Places.{Placed, and-then-placed}
 use Rattle.record.proofs.Laws.Bounds.{parsed-placed, reading-place}
 use Rattle.record.proofs.Laws.Delivered.{delivered-place}
-use Rattle.showing.proofs.Laws.Bounds.{shown-place, shown-end}
-use Rattle.translate.specs.Translate.{translatedBytes, translated}
-use Rattle.litset.specs.Layout.{encodedSet}
-use Rattle.litset.specs.Reading.{parsedSet}
+use Rattle.record_show.specs.declared.Shown.{Shown}
+use Rattle.record_show.specs.Show.{shown}
+use Rattle.record_show.proofs.Laws.Bounds.{shown-place, shown-end}
+use Rattle.set.specs.Layout.{encodedSet}
+use Rattle.set.specs.Reading.{parsedSet}
+use Rattle.set.proofs.Laws.Places.{parsed-set-placed}
 use Rattle.inputs.specs.Inputs.{withInputs}
-use Rattle.litset.proofs.Laws.Places.{parsed-set-placed}
+use Rattle.translate.specs.Translate.{translatedBytes, translated}
 use Rattle.quotient.specs.Quotient.{quotientProgram, quotientBytes, quotiented}
 use Rattle.extend.specs.Extend.{extensionList, extensionBytes, extended}
 use Rattle.restrict.specs.Restrict.{restrictionList, restrictionBytes, restricted}
-use Rattle.word.specs.Code.{ShortReading, ShortWritten, ShortShown}
+use Rattle.aspda_word.specs.Code.{ShortReading, ShortWritten, ShortShown}
 
 -- a place within a larger bound
 placed-wider : {A : Type 0} (j k : ℕ) (r : Result A) → j ≤ k → Placed j r → Placed k r
@@ -62,7 +62,9 @@ module _ (F : Limits) (small : F .length < 2147483648) (s : List ℕ) where
   made-short h k out make a e =
       delivered-short (andThen (parsed F s) (λ p. andThen (parsedSet F (F .literals) k) (λ ls. accepted (make p ls)))) out
       (and-then-placed (F .length) (parsed F s) (λ p. andThen (parsedSet F (F .literals) k) (λ ls. accepted (make p ls))) (parsed-placed F s) (λ p.
-      and-then-placed (F .length) (parsedSet F (F .literals) k) (λ ls. accepted (make p ls)) (placed-wider (4 + 5 * F .literals) (F .length) (parsedSet F (F .literals) k) h (parsed-set-placed F (F .literals) k)) (λ ls. tt))) a e
+      and-then-placed (F .length) (parsedSet F (F .literals) k) (λ ls. accepted (make p ls))
+      (placed-wider (4 + 5 * F .literals) (F .length) (parsedSet F (F .literals) k) h (parsed-set-placed F (F .literals) k)) (λ ls. tt)))
+      a e
 
   pub quotiented-short : 4 + 5 * F .literals ≤ F .length → (k out : List ℕ) (a : Written) → a ≡ quotiented F s k out .answer → ShortWritten a
   unfolding quotiented quotientBytes withInputs
@@ -77,4 +79,6 @@ module _ (F : Limits) (small : F .length < 2147483648) (s : List ℕ) where
   unfolding restricted restrictionBytes
   restricted-short h out a e =
       delivered-short (restrictionBytes F s) out
-      (and-then-placed (F .length) (parsedSet F (F .literals) s) (λ ls. accepted (encodedSet (restrictionList ls))) (placed-wider (4 + 5 * F .literals) (F .length) (parsedSet F (F .literals) s) h (parsed-set-placed F (F .literals) s)) (λ ls. tt)) a e
+      (and-then-placed (F .length) (parsedSet F (F .literals) s) (λ ls. accepted (encodedSet (restrictionList ls)))
+      (placed-wider (4 + 5 * F .literals) (F .length) (parsedSet F (F .literals) s) h (parsed-set-placed F (F .literals) s)) (λ ls. tt))
+      a e

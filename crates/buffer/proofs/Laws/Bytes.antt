@@ -2,9 +2,9 @@
 -- In order: lists of bytes, made, taken apart and joined; the bytes of a field; a number's two bytes and back.
 -- Assumes nothing.
 use Prim.Native.Nat.{ℕ, zero, suc, _+_, _/_, _%_, _<_}
+use native.Mathlib.Omega.{arith}
 use mathlib.Core.Path.{_≡_}
 use mathlib.Core.List.{List, [], _∷_, _++_}
-use native.Mathlib.Omega.{arith}
 use lib.Arith.{digits-div, digits-mod}
 use lib.ListN.{take, drop}
 use lib.Seq.{getD-drop}
@@ -37,6 +37,15 @@ bytes-drop n bs t i = rw getD-drop (t (n + i))
 pub bytes-append : (bs cs : List ℕ) → Bytes bs → Bytes cs → Bytes (bs ++ cs)
 bytes-append [] cs t u = u
 bytes-append (b ∷ bs) cs t u = bytes-cons (bs ++ cs) (t 0) (bytes-append bs cs (bytes-tail b bs t) u)
+
+-- both parts of bytes are bytes
+pub bytes-front : (bs cs : List ℕ) → Bytes (bs ++ cs) → Bytes bs
+bytes-front [] cs t = bytes-nil
+bytes-front (b ∷ bs) cs t = bytes-cons bs (t 0) (bytes-front bs cs (bytes-tail b (bs ++ cs) t))
+
+pub bytes-behind : (bs cs : List ℕ) → Bytes (bs ++ cs) → Bytes cs
+bytes-behind [] cs t = t
+bytes-behind (b ∷ bs) cs t = bytes-behind bs cs (bytes-tail b (bs ++ cs) t)
 
 -- the bytes of a field of two are bytes
 pub bytes-twoBytes : (n : ℕ) → n < 65536 → Bytes (twoBytes n)

@@ -6,8 +6,9 @@ use lib.Dec.{T}
 use Rattle.literal.specs.declared.Literal.{Literal}
 use Rattle.semantics.specs.Set.{eachOf, setOf}
 use Rattle.semantics.specs.Rule.{Program}
-use Rattle.marks.specs.Marks.{marksFrom}
-use Rattle.marks.proofs.Laws.Each.{each-all, isMark, marks-are}
+use Rattle.semantics.proofs.Laws.Tests.{each-all}
+use Rattle.extend_marks.specs.Marks.{marksFrom}
+use Rattle.extend_marks.proofs.Laws.Each.{isMark, marks-are}
 use Rattle.extend.specs.Extend.{sorted, extensionList}
 use Rattle.extend.proofs.Laws.Sorted.{each-sorted}
 

@@ -6,45 +6,50 @@ use Prim.Native.Nat.{ℕ, _+_, _*_, _<_}
 use native.Mathlib.Omega.{arith}
 use native.Mathlib.Nat.{mul-le-mul-right}
 use mathlib.Core.Path.{_≡_, refl, sym, _∙_, ap, ap₂}
-use mathlib.Core.Bool.{_&&_}
 use mathlib.Core.List.{List, _++_, map, append-assoc}
-use lib.Dec.{T, leb}
+use lib.Dec.{T, leb, le→leb}
 use lib.ListN.{length, take, drop, length-append, length-map, length-take}
 use lib.Seq.{take-all, take-append-le, length-front}
 use Rattle.buffer.specs.Bytes.{Bytes}
 use Rattle.literal.specs.declared.Limits.{Limits}
 use Rattle.literal.specs.declared.Literal.{Literal}
 use Rattle.literal.specs.Order.{key}
+use Rattle.literal.proofs.Laws.Literal.{Fits}
 use Rattle.semantics.specs.Set.{LiteralSet, eachOf, setOf}
-use Rattle.semantics.specs.Rule.{Rule, head, positive, naf, Program}
-use Rattle.semantics.specs.Form.{keepsCounts, keepsRule, keepsRules}
-use Rattle.semantics.proofs.Laws.Tests.{first, all-intro, all-mem}
-use Rattle.semantics.proofs.Laws.Form.{keeps-count, keeps-each, keeps-counts}
+use Rattle.semantics.specs.Rule.{Rule, head, Program}
+use Rattle.semantics.specs.Form.{keepsRule, keepsRules}
+use Rattle.semantics.proofs.Laws.Tests.{Each, all-intro, all-mem}
+use Rattle.semantics.proofs.Laws.Agree.{Speaks}
+use Rattle.semantics.proofs.Laws.Form.{keeps-count, keeps-each, kept}
 use Rattle.record.specs.Result.{accepted}
-use Rattle.record.specs.Layout.{encodedLiterals, encodedProgram, keeps}
+use Rattle.record.specs.Layout.{encodedLiterals}
 use Rattle.record.specs.Reading.{parsed}
 use Rattle.record.proofs.Laws.Layout.{encoded-literals-append, length-encoded-literals}
 use Rattle.record.proofs.Laws.Reading.{parsed-sound}
+use Rattle.record.proofs.Laws.Fit.{program-fits}
+use Rattle.record.proofs.Laws.Keeps.{kept-program}
+use Rattle.record_walk.specs.Code.{Holds}
+use Rattle.set.specs.Layout.{encodedSet}
+use Rattle.set.specs.Reading.{parsedSet}
+use Rattle.set.specs.Code.{keySet, setHeader}
+use Rattle.set.proofs.Laws.Reading.{parsed-set-sound, length-encoded-set, keeps-set-most}
+use Rattle.set.proofs.Laws.Keys.{read-agree}
 use Rattle.keys.specs.Keys.{sortedKeys}
 use Rattle.keys.specs.Code.{keyBytes, Fitting}
 use Rattle.keys.proofs.Laws.Bytes.{fitting-sorted}
-use Rattle.sorting.specs.Code.{Sorted}
-use Rattle.litset.specs.Layout.{encodedSet}
-use Rattle.litset.specs.Reading.{parsedSet}
-use Rattle.litset.specs.Code.{keySet, setHeader}
-use Rattle.litset.proofs.Laws.Reading.{parsed-set-sound, length-encoded-set, keeps-set-most}
-use Rattle.litset.proofs.Laws.Keys.{has-key-member}
-use Rattle.marks.specs.Marks.{marksFrom}
-use Rattle.marks.specs.Code.{Gained, Marking}
-use Rattle.marks.proofs.Laws.Gained.{gained-front}
+use Rattle.keys_sort.specs.Code.{Sorted}
+use Rattle.extend_marks.specs.Marks.{marksFrom}
+use Rattle.extend_marks.specs.Code.{Gained, Markable}
+use Rattle.extend_marks.proofs.Laws.Gained.{gained-front}
+use Rattle.extend_marks.proofs.Laws.Agree.{marks-same}
 use Rattle.extend.specs.Extend.{sorted, extensionList}
 use Rattle.extend.specs.Code.{most, Extendable, joined}
-use Rattle.extend.proofs.Laws.Sorted.{Narrow, keys-sorted, keyBytes-sorted, fitting-keys}
-use Rattle.extend.proofs.Laws.Agree.{marks-agree}
+use Rattle.extend.proofs.Laws.Sorted.{keys-sorted, keyBytes-sorted, fitting-keys}
 use Rattle.extend.proofs.Laws.Narrow.{marks-fit}
 
 -- keys that were gained from the front on, and are sorted there
-pub gained-sorted : {d e f : List ℕ} {n r : ℕ} {ks : List ℕ} → Gained d e 0 n ks → Sorted (take n e) f r (sortedKeys (take n e)) → Sorted d (f ++ drop n e) r (sortedKeys ks)
+pub gained-sorted : {d e f : List ℕ} {n r : ℕ} {ks : List ℕ} → Gained d e 0 n ks → Sorted (take n e) f r (sortedKeys (take n e))
+    → Sorted d (f ++ drop n e) r (sortedKeys ks)
 gained-sorted {d} {e} {f} {n} {r} g s =
     record {
       count = omega (arith, s .count, length-take n e, g .same);
@@ -54,29 +59,30 @@ gained-sorted {d} {e} {f} {n} {r} g s =
 
 -- a rule within the limits has no more head literals than they allow
 pub few-heads : (F : Limits) (r : Rule) → T (keepsRule F r) → T (leb (length (head r)) (F .heads))
-unfolding keepsCounts
-few-heads F r k = first (leb (length (head r)) (F .heads)) (leb (length (positive r)) (F .positives) && leb (length (naf r)) (F .nafs)) (keeps-counts F r k)
+few-heads F r k = le→leb (length (head r)) (F .heads) (kept F r k .heads)
 
 module _ (F : Limits) (ok : Extendable F) (s : List ℕ) (p : Program) (e : parsed F s ≡ accepted p) (bytes : Bytes s) where
   -- the program keeps the limits
   within : T (keepsRules F p)
-  unfolding keeps
-  within = first (keepsRules F p) (leb (length (encodedProgram p)) (F .length)) (parsed-sound F s p bytes e .1)
+  within = kept-program F p (parsed-sound F s p bytes e .1) .rules
 
   each : T (eachOf (keepsRule F) p)
   each = keeps-each F p within
 
   -- its marks can be collected
-  pub marking : Marking s most
+  pub marking : Holds (Markable most) s
   marking =
       record {
         program = p;
         bytes = parsed-sound F s p bytes e .0;
-        heads = F .heads;
-        some = ok .some;
-        few = all-intro (λ r. leb (length (head r)) (F .heads)) p (λ r m. few-heads F r (all-mem (keepsRule F) each m));
-        short = omega (arith, keeps-count F p within, ok .rules);
-        fits = omega (arith, mul-le-mul-right (F .heads) (keeps-count F p within), ok .marks);
+        asked =
+            record {
+              heads = F .heads;
+              some = ok .some;
+              few = all-intro (λ r. leb (length (head r)) (F .heads)) p (λ r m. few-heads F r (all-mem (keepsRule F) each m));
+              short = omega (arith, keeps-count F p within, ok .rules);
+              fits = omega (arith, mul-le-mul-right (F .heads) (keeps-count F p within), ok .marks);
+            };
       }
 
   pub marking-program : marking .program ≡ p
@@ -84,13 +90,16 @@ module _ (F : Limits) (ok : Extendable F) (s : List ℕ) (p : Program) (e : pars
   marking-program = refl
 
   -- their fields fit two bytes
-  narrow-marks : (u : LiteralSet) → Narrow (marksFrom 1 p u)
-  narrow-marks u = marks-fit F ok u 1 p (omega (arith, keeps-count F p within, ok .rules)) each
+  spoken : Each (Speaks Fits) p
+  spoken = program-fits s p bytes (parsed-sound F s p bytes e .0)
+
+  narrow-marks : (u : LiteralSet) → Each Fits (marksFrom 1 p u)
+  narrow-marks u = marks-fit u 1 p (omega (arith, keeps-count F p within, ok .rules)) spoken
 
   module _ (k : List ℕ) (ls : List Literal) (m : parsedSet F (F .literals) k ≡ accepted ls) (places : Bytes k) where
     -- the marks in the set that is searched are those in the set
     same-marks : marksFrom 1 p (keySet k (length ls)) ≡ marksFrom 1 p (setOf ls)
-    same-marks = marks-agree F ok (keySet k (length ls)) (setOf ls) (λ l t a. has-key-member F (F .literals) k ls places m l t a) 1 p each
+    same-marks = marks-same Fits (keySet k (length ls)) (setOf ls) (read-agree F (F .literals) k ls places m) 1 p spoken
 
     -- the set's literals, as they lie behind its count
     literals-lie : take (5 * length ls) (drop 4 k) ≡ encodedLiterals ls
@@ -130,7 +139,8 @@ module _ (F : Limits) (ok : Extendable F) (s : List ℕ) (p : Program) (e : pars
       gathered-record =
           let ms = sorted (marksFrom 1 p (setOf ls)) in
           let total : length ls + n ≡ length (ls ++ ms) = omega (arith, gathered-count, length-append ls ms) in
-          let literals = ap₂ _++_ literals-lie (ap keyBytes front ∙ keyBytes-sorted (marksFrom 1 p (setOf ls)) (narrow-marks (setOf ls))) ∙ sym (encoded-literals-append ls ms) in
+          let literals = ap₂ _++_ literals-lie (ap keyBytes front ∙ keyBytes-sorted (marksFrom 1 p (setOf ls)) (narrow-marks (setOf ls)))
+          ∙ sym (encoded-literals-append ls ms) in
           append-assoc (setHeader (length ls + n)) (take (5 * length ls) (drop 4 k)) (keyBytes (take n x))
           ∙ ap₂ (λ (c : ℕ) (y : List ℕ). setHeader c ++ y) total literals
 

@@ -11,16 +11,18 @@ use lib.ListN.{length, length-append}
 use Rattle.literal.specs.declared.Limits.{Limits}
 use Rattle.literal.specs.declared.Literal.{Literal}
 use Rattle.literal.specs.Literal.{mostKind, takes}
+use Rattle.literal.proofs.Laws.Literal.{Fits}
 use Rattle.semantics.specs.Set.{LiteralSet, setOf}
 use Rattle.semantics.specs.Rule.{head, Program}
-use Rattle.semantics.specs.Form.{keepsRule, keepsRules}
-use Rattle.semantics.proofs.Laws.Tests.{all-intro, all-mem, along}
+use Rattle.semantics.specs.Form.{SetOf, keepsRule, keepsRules}
+use Rattle.semantics.proofs.Laws.Tests.{Each, all-intro, all-mem, along}
+use Rattle.semantics.proofs.Laws.Agree.{Speaks}
 use Rattle.semantics.proofs.Laws.Set.{set-of-mem, mem-set-of}
 use Rattle.semantics.proofs.Laws.Form.{keeps-count, keeps-each, takes-source, Covers, extension-within}
-use Rattle.litset.specs.Layout.{keepsSet}
-use Rattle.litset.proofs.Laws.Reading.{keeps-set, keeps-set-ascending, keeps-set-taken, keeps-set-most}
-use Rattle.marks.specs.Marks.{marksFrom}
-use Rattle.marks.proofs.Laws.Count.{length-program}
+use Rattle.set.specs.Layout.{keepsSet}
+use Rattle.set.proofs.Laws.Reading.{keeps-set, keeps-set-ascending, keeps-set-taken, keeps-set-most}
+use Rattle.extend_marks.specs.Marks.{marksFrom}
+use Rattle.extend_marks.proofs.Laws.Count.{length-program}
 use Rattle.extend.specs.Extend.{sorted, extensionList}
 use Rattle.extend.specs.Code.{most, Extendable}
 use Rattle.extend.proofs.Laws.Sorted.{length-sorted}
@@ -44,12 +46,15 @@ module _ (F : Limits) (ok : Extendable F) (p : Program) (k : T (keepsRules F p))
       )
 
   -- the list is a set within the limits of a form that covers F
-  pub extension-keeps : (G : Limits) → Covers F G → mostKind (F .kinds) ≤ 3 → F .literals + most ≤ G .literals → (ls : List Literal) → T (keepsSet F (F .literals) ls) → T (keepsSet G (G .literals) (extensionList p ls))
-  extension-keeps G covers kinds room ls h =
+  pub extension-keeps : Each (Speaks Fits) p → (G : Limits) → Covers F G → mostKind (F .kinds) ≤ 3 → F .literals + most ≤ G .literals → (ls : List Literal)
+      → T (keepsSet F (F .literals) ls) → T (keepsSet G (G .literals) (extensionList p ls))
+  extension-keeps fit G covers kinds room ls h =
       let taken = keeps-set-taken F (F .literals) ls h in
-      let within = extension-within F G covers p k (setOf ls) (λ l y. takes-source F kinds l (all-mem (takes F) taken (mem-set-of l ls y))) (λ l y. all-mem (takes F) taken (mem-set-of l ls y)) in
+      let inside : SetOf F (setOf ls) = λ l y. all-mem (takes F) taken (mem-set-of l ls y) in
+      let within = extension-within F G covers p k (setOf ls) (λ l y. takes-source F kinds l (inside l y)) inside in
       let size = length-extension ls in
       let count = keeps-set-most F (F .literals) ls h in
+      let same = extension-list p (omega (arith, keeps-count F p k, ok .rules)) fit ls in
       keeps-set G (G .literals) (extensionList p ls) (extension-ascending-form F ok kinds p ls taken (keeps-set-ascending F (F .literals) ls h))
-      (all-intro (takes G) (extensionList p ls) (λ l m. within l (along (ap (λ (u : LiteralSet). u l) (extension-list F ok p k ls)) (set-of-mem m))))
+      (all-intro (takes G) (extensionList p ls) (λ l m. within l (along (ap (λ (u : LiteralSet). u l) same) (set-of-mem m))))
       (omega (arith, size, count)) (omega (arith, size, count, ok .total))

@@ -12,14 +12,14 @@ use Rattle.literal.specs.declared.Literal.{Literal}
 use Rattle.literal.specs.declared.Literal.the-variants.{Signed, Defeated, Derived, RuleDefeated}
 use Rattle.literal.specs.Literal.{kind}
 use Rattle.literal.specs.Order.{key}
+use Rattle.literal.proofs.Laws.Literal.{Fits}
 use Rattle.semantics.specs.Set.{LiteralSet, eachOf}
 use Rattle.semantics.specs.Rule.{Rule, strict, defeasible, Program}
 use Rattle.semantics.specs.Translation.{ruleDefeated}
 use Rattle.semantics.specs.Extension.{sourceKind}
-use Rattle.semantics.proofs.Laws.Tests.{first, second}
-use Rattle.marks.specs.Marks.{marksFrom}
-use Rattle.marks.proofs.Laws.Each.{Adds, each-mark}
-use Rattle.extend.proofs.Laws.Sorted.{Fits, Narrow}
+use Rattle.semantics.proofs.Laws.Tests.{Each, first, second}
+use Rattle.extend_marks.specs.Marks.{marksFrom}
+use Rattle.extend_marks.proofs.Laws.Each.{Adds, each-mark}
 use Rattle.extend.proofs.Laws.Inserted.{Below, NotBelow}
 
 -- the first key of a mark
@@ -46,9 +46,9 @@ below-source (Defeated t (Negative a)) s f = omega (arith, f .0, f .1)
 below-source (Derived t a) s f = absurd s
 below-source (RuleDefeated n) s f = absurd s
 
-pub below-literals : (ls : List Literal) → T (eachOf sourceKind ls) → Narrow ls → Below firstMark ls
+pub below-literals : (ls : List Literal) → T (eachOf sourceKind ls) → Each Fits ls → Below firstMark ls
 below-literals [] s f = tt
-below-literals (l ∷ ls) s f = (below-source l (first (sourceKind l) (eachOf sourceKind ls) s) (f .0), below-literals ls (second (sourceKind l) (eachOf sourceKind ls) s) (f .1))
+below-literals (l ∷ ls) s f = (below-source l (first (sourceKind l) _ s) (f .0), below-literals ls (second (sourceKind l) _ s) (f .1))
 
 -- the marks of a program
 pub not-below-marks : (s : LiteralSet) (n : ℕ) (p : Program) → NotBelow firstMark (marksFrom n p s)

@@ -13,8 +13,8 @@ use Rattle.record.specs.Result.{Result, accepted, refused, andThen}
 use Rattle.record.specs.Reading.{parsed, readingOf, reading}
 use Rattle.record.proofs.Laws.Reading.{read-count, read-refused}
 use Rattle.record.proofs.Laws.Result.{accepted-eq, refused-accepted}
-use Rattle.litset.specs.Reading.{parsedSet}
-use Rattle.litset.specs.Code.{setReading}
+use Rattle.set.specs.Reading.{parsedSet}
+use Rattle.set.specs.Code.{setReading}
 use Rattle.inputs.specs.Inputs.{withInputs}
 use Rattle.inputs.specs.Code.{inputsReading, Inputs}
 
@@ -86,7 +86,8 @@ module _ (F : Limits) (most : ℕ) (s k : List ℕ) where
       program (refused x) h = absurd (refused-accepted (sym (inputs-program (λ p ls. accepted ls) x h) ∙ told .1))
 
   -- from a refusal: whatever is to be made of the two is refused with it
-  pub inputs-refused : {A : Type 0} (f : Program → List Literal → Result A) (x : Refusal) → inputsReading F most s k ≡ Reading.Refused x → withInputs F most s k f ≡ refused x
+  pub inputs-refused : {A : Type 0} (f : Program → List Literal → Result A) (x : Refusal)
+      → inputsReading F most s k ≡ Reading.Refused x → withInputs F most s k f ≡ refused x
   unfolding inputsReading
   inputs-refused f x e = program (parsed F s) refl
     where

@@ -16,7 +16,7 @@ use Rattle.buffer.proofs.Laws.Next.{write-then}
 use Rattle.literal.specs.declared.Literal.{Literal}
 use Rattle.literal.specs.Literal.{kind, tagField, atomField, encoded}
 use Rattle.literal.specs.Order.{key}
-use Rattle.literal.proofs.Laws.Literal.{kind-most}
+use Rattle.literal.proofs.Laws.Literal.{Fits, kind-most}
 use Rattle.keys.specs.Keys.{keyIn, sortedKeys}
 use Rattle.keys.specs.Code.{bytesOf, keyBytes, Fitting}
 use Rattle.keys.proofs.Laws.Members.{either, in-at}
@@ -56,7 +56,9 @@ module _ (ks : List ℕ) (n : ℕ) (fits : n ≤ length ks) (i : ℕ) where
 
 -- a key at a place fits five bytes where all keys do
 pub fitting-at : (ks : List ℕ) (n i : ℕ) → n ≤ length ks → Fitting (take n ks) → i < n → getD ks i 0 < 1099511627776
-fitting-at ks n i fits f h = subst (λ (k : ℕ). k < 1099511627776) (getD-take n ks i 0 h) (f (getD (take n ks) i 0) (in-at (take n ks) i (omega (arith, length-take-le n ks fits))))
+fitting-at ks n i fits f h =
+    subst (λ (k : ℕ). k < 1099511627776) (getD-take n ks i 0 h)
+    (f (getD (take n ks) i 0) (in-at (take n ks) i (omega (arith, length-take-le n ks fits))))
 
 -- keys that fit, made and sorted
 pub fitting-nil : Fitting []
@@ -68,17 +70,17 @@ fitting-cons k ks h f m t = either (eqb m k) (keyIn m ks) t (λ e. omega (arith,
 pub fitting-sorted : (ks : List ℕ) → Fitting ks → Fitting (sortedKeys ks)
 fitting-sorted ks f k t = f k (subst T (in-sorted k ks) t)
 
-module _ (l : Literal) (t : tagField l < 65536) (a : atomField l < 65536) where
+module _ (l : Literal) (fit : Fits l) where
   -- a literal's key has the bytes of the literal
   pub bytesOf-key : bytesOf (key l) ≡ encoded l
   unfolding bytesOf key encoded
   bytesOf-key =
-      let top : ((kind l * 65536 + tagField l) * 65536 + atomField l) / 4294967296 ≡ kind l = omega arith in
-      let tag : ((kind l * 65536 + tagField l) * 65536 + atomField l) / 65536 % 65536 ≡ tagField l = omega arith in
-      let atom : ((kind l * 65536 + tagField l) * 65536 + atomField l) % 65536 ≡ atomField l = omega arith in
+      let top : ((kind l * 65536 + tagField l) * 65536 + atomField l) / 4294967296 ≡ kind l = omega (arith, fit .0, fit .1) in
+      let tag : ((kind l * 65536 + tagField l) * 65536 + atomField l) / 65536 % 65536 ≡ tagField l = omega (arith, fit .0, fit .1) in
+      let atom : ((kind l * 65536 + tagField l) * 65536 + atomField l) % 65536 ≡ atomField l = omega (arith, fit .1) in
       rw (top, tag, atom)
 
   -- and fits five bytes
   pub key-fits : key l < 1099511627776
   unfolding key
-  key-fits = omega (arith, kind-most l)
+  key-fits = omega (arith, kind-most l, fit .0, fit .1)

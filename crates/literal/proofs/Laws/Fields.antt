@@ -3,7 +3,7 @@
 -- by kind in each form; bounds in one number; the matches of the two forms; the fields of each case of a literal. Assumes nothing.
 use Prim.Native.Nat.{ℕ, zero, suc, _+_, _*_, _/_, _%_, _≤_, _<_}
 use native.Mathlib.Omega.{arith}
-use mathlib.Core.Path.{_≡_, refl, sym, ap, _∙_}
+use mathlib.Core.Path.{_≡_, refl, sym, _∙_}
 use mathlib.Core.Bool.{Bool, true, false, cond, _&&_, and-false, and-assoc}
 use mathlib.Core.List.{List}
 use lib.Dec.{leb, eqb}
@@ -46,7 +46,7 @@ module _ (F : Limits) (l : Literal) (t a : ℕ) where
   -- a mark
   right-tagged : takes F l ≡ (inRange (F .tags) t && inRange (F .atoms) a) → isValid (within F (Valid l)) ≡ inSpan (span 1 (F .tags) (F .atoms)) t a
   unfolding inSpan
-  right-tagged e = valid-taken F l ∙ (e ∙ and-assoc (leb 1 t) (leb t (F .tags)) (inRange (F .atoms) a))
+  right-tagged e = valid-taken F l ∙ e ∙ and-assoc (leb 1 t) (leb t (F .tags)) (inRange (F .atoms) a)
 
 -- where no number may stand, nothing is right
 refused-wrong : (t a : ℕ) → inSpan (span 0 0 0) t a ≡ false
@@ -60,7 +60,7 @@ refused-wrong t a = rw (none a, and-false (leb t 0), and-false (leb 0 t))
 module _ (F : Limits) (l : Literal) (t a : ℕ) (e : takes F l ≡ false) where
   -- so is a literal that the form does not take, with any tag
   right-refused : isValid (within F (Valid l)) ≡ inSpan (span 0 0 0) t a
-  right-refused = valid-taken F l ∙ (e ∙ sym (refused-wrong t a))
+  right-refused = valid-taken F l ∙ e ∙ sym (refused-wrong t a)
 
   right-refused-untagged : isValid (within F (cond (eqb t 0) (Valid l) Wrong)) ≡ inSpan (span 0 0 0) t a
   unfolding isValid within
@@ -74,7 +74,8 @@ module _ (F : Limits) (l : Literal) (t a : ℕ) (e : takes F l ≡ false) where
 right-above : (F : Limits) (K : Kinds) (k t a : ℕ) → 6 < k → isValid (within F (spelled k t a)) ≡ inSpan (spanAmong K F k) t a
 unfolding isValid within spanAmong sourceSpan plainSpan ruleSpan
 right-above F SourceKinds k t a h = rw (spelled-above k t a h, lt-leb k 1 (omega (arith, h)), lt-leb k 3 (omega (arith, h))) (sym (refused-wrong t a))
-right-above F PlainKinds k t a h = rw (spelled-above k t a h, lt-leb k 1 (omega (arith, h)), lt-leb k 5 (omega (arith, h)), ne-eqb k 6 (omega (arith, h))) (sym (refused-wrong t a))
+right-above F PlainKinds k t a h =
+    rw (spelled-above k t a h, lt-leb k 1 (omega (arith, h)), lt-leb k 5 (omega (arith, h)), ne-eqb k 6 (omega (arith, h))) (sym (refused-wrong t a))
 
 module _ (F : Limits) where
   -- three fields spell a literal of a source exactly where the last two may stand behind the first
@@ -106,12 +107,14 @@ module _ (F : Limits) where
   unfolding decoded spanAmong
   valid-fields bs = go (F .kinds) refl
     where
-      go : (K : Kinds) → F .kinds ≡ K → isValid (within F (spelled (getD bs 0 0) (numberAt bs 1) (numberAt bs 3))) ≡ inSpan (spanAmong K F (getD bs 0 0)) (numberAt bs 1) (numberAt bs 3)
+      go : (K : Kinds) → F .kinds ≡ K → isValid (within F (spelled (getD bs 0 0) (numberAt bs 1) (numberAt bs 3)))
+          ≡ inSpan (spanAmong K F (getD bs 0 0)) (numberAt bs 1) (numberAt bs 3)
       go SourceKinds e = right-source e (getD bs 0 0) (numberAt bs 1) (numberAt bs 3)
       go PlainKinds e = right-plain e (getD bs 0 0) (numberAt bs 1) (numberAt bs 3)
 
   -- the same, of fields and bounds that code has at hand
-  pub valid-behind : (bs : List ℕ) (f : Fields) (s : Span) → f ≡ fieldsAt bs → s ≡ spanAmong (F .kinds) F (f .kind) → isValid (decoded F bs) ≡ inSpan s (f .tag .0) (f .number)
+  pub valid-behind : (bs : List ℕ) (f : Fields) (s : Span) → f ≡ fieldsAt bs → s ≡ spanAmong (F .kinds) F (f .kind)
+      → isValid (decoded F bs) ≡ inSpan s (f .tag .0) (f .number)
   valid-behind bs f s fields decodes = rw (decodes, fields) (valid-fields bs)
 
 -- three bounds of two bytes in one number

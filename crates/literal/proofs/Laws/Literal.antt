@@ -1,11 +1,11 @@
 -- Laws of literals and their five bytes, for a form in general.
 -- In order: a literal's fields and bytes; what three fields spell, and the fields of what is spelled; five bytes and the
--- fields in them; decoding in a form, from bytes to a literal and back; the fields' ranges in a form. Assumes nothing.
-use Prim.Native.Nat.{ℕ, zero, suc, _+_, _≤_, _<_, max}
-use mathlib.Core.Bool.{Bool, true, false, cond, true≢false}
+-- fields in them; decoding in a form, from bytes to a literal and back; fields that fit two bytes in a form. Assumes nothing.
+use Prim.Native.Nat.{ℕ, zero, suc, _+_, _≤_, _<_}
+use native.Mathlib.Omega.{arith}
+use mathlib.Core.Bool.{Bool, true, false, cond, _&&_, true≢false}
 use mathlib.Core.List.{List, [], _∷_, _++_}
 use mathlib.Core.Path.{_≡_, refl, sym, ap, ap₂, _∙_}
-use native.Mathlib.Omega.{arith}
 use lib.Dec.{T, leb, eqb, leb→le}
 use lib.Ieee.Bits.{is-true}
 use lib.Ieee.Fits.{and-l, and-r}
@@ -16,6 +16,8 @@ use Rattle.buffer.specs.Write.{write}
 use Rattle.buffer.proofs.Laws.Write.{write-write}
 use Rattle.buffer.proofs.Laws.Bytes.{bytes-cons, bytes-append, bytes-twoBytes, number-twoBytes, twoBytes-number}
 use Rattle.literal.specs.declared.Limits.{Limits}
+use Rattle.literal.specs.declared.Tag.{Tag}
+use Rattle.literal.specs.declared.SignedAtom.{SignedAtom}
 use Rattle.literal.specs.declared.SignedAtom.the-variants.{Positive, Negative}
 use Rattle.literal.specs.declared.Literal.{Literal}
 use Rattle.literal.specs.declared.Literal.the-variants.{Signed, Defeated, Derived, RuleDefeated}
@@ -38,13 +40,22 @@ pub length-encoded : (l : Literal) → length (encoded l) ≡ 5
 unfolding encoded
 length-encoded l = refl
 
--- which are bytes where its fields fit two bytes each
-pub bytes-encoded : (l : Literal) → tagField l < 65536 → atomField l < 65536 → Bytes (encoded l)
+-- a literal's tag and its atom or rule number fit two bytes each
+abbrev pub Fits : Literal → Type 0
+Fits l = (tagField l < 65536) × (atomField l < 65536)
+
+-- its five bytes are bytes where they do
+pub bytes-encoded : (l : Literal) → Fits l → Bytes (encoded l)
 unfolding encoded
-bytes-encoded l ht ha =
+bytes-encoded l fit =
     bytes-cons (twoBytes (tagField l) ++ twoBytes (atomField l)) (omega (arith, kind-most l))
-    (bytes-append (twoBytes (tagField l)) (twoBytes (atomField l)) (bytes-twoBytes (tagField l) ht)
-    (bytes-twoBytes (atomField l) ha))
+    (bytes-append (twoBytes (tagField l)) (twoBytes (atomField l)) (bytes-twoBytes (tagField l) (fit .0))
+    (bytes-twoBytes (atomField l) (fit .1)))
+
+-- and they do where its bytes are bytes, whatever stands behind them
+pub encoded-fits : (l : Literal) (rest : List ℕ) → Bytes (encoded l ++ rest) → Fits l
+unfolding encoded
+encoded-fits l rest bytes = (omega (arith, bytes 1), omega (arith, bytes 3))
 
 -- the fields written one behind the other are the literal's bytes written
 pub write-fields :
@@ -151,6 +162,12 @@ spelled-encoded :
 unfolding encoded
 spelled-encoded l rest = rw (number-twoBytes (tagField l), number-twoBytes (atomField l)) (spelled-fields l)
 
+-- the figures of a form's literals fit two bytes each, that of rule numbers where its kinds have them
+pub record TwoBytes (F : Limits) : Type 0 where
+  pub atoms : F .atoms < 65536
+  pub tags : F .tags < 65536
+  pub numbers : 6 ≤ mostKind (F .kinds) → F .numbers < 65536
+
 -- what is in range is at most the largest value
 in-range : (most n : ℕ) → T (inRange most n) → n ≤ most
 in-range most n h = leb→le n most (and-r (leb 1 n) (leb n most) h)
@@ -205,40 +222,23 @@ module _ (F : Limits) where
   unfolding takes
   takes-both l k h = rw (le-leb (kind l) (mostKind (F .kinds)) k) h
 
-  -- the tag of a literal in the form's ranges
-  ranged-tag : (l : Literal) → T (ranged F l) → tagField l ≤ F .tags
-  unfolding ranged tagField
-  ranged-tag (Signed a) h = omega arith
-  ranged-tag (Defeated t a) h = in-range (F .tags) (t .0) (and-l (inRange (F .tags) (t .0)) (inRange (F .atoms) (atomNumber a)) h)
-  ranged-tag (Derived t a) h = in-range (F .tags) (t .0) (and-l (inRange (F .tags) (t .0)) (inRange (F .atoms) (atomNumber a)) h)
-  ranged-tag (RuleDefeated n) h = omega arith
-
-  -- its atom or rule number
-  ranged-atom : (l : Literal) → T (ranged F l) → atomField l ≤ max (F .atoms) (F .numbers)
-  unfolding ranged atomField
-  ranged-atom (Signed a) h = omega (arith, in-range (F .atoms) (atomNumber a) h)
-  ranged-atom (Defeated t a) h =
-      omega (arith, in-range (F .atoms) (atomNumber a) (and-r (inRange (F .tags) (t .0)) (inRange (F .atoms) (atomNumber a)) h))
-  ranged-atom (Derived t a) h =
-      omega (arith, in-range (F .atoms) (atomNumber a) (and-r (inRange (F .tags) (t .0)) (inRange (F .atoms) (atomNumber a)) h))
-  ranged-atom (RuleDefeated n) h = omega (arith, in-range (F .numbers) (n .0) h)
-
-  -- the same of a literal that the form takes
-  pub takes-tag : (l : Literal) → T (takes F l) → tagField l ≤ F .tags
-  takes-tag l h = ranged-tag l (takes-ranged l h)
-
-  pub takes-atom : (l : Literal) → T (takes F l) → atomField l ≤ max (F .atoms) (F .numbers)
-  takes-atom l h = ranged-atom l (takes-ranged l h)
-
   -- the fields of a literal that the form takes fit two bytes where the form's figures do
-  pub takes-fields :
-      F .tags < 65536 →
-      F .atoms < 65536 →
-      F .numbers < 65536 →
-      (l : Literal) →
-      T (takes F l) →
-      (tagField l < 65536) × (atomField l < 65536)
-  takes-fields ht ha hn l h = (omega (arith, takes-tag l h), omega (arith, takes-atom l h))
+  module _ (w : TwoBytes F) where
+    tagged : (t : Tag) (a : SignedAtom) → T (inRange (F .tags) (t .0) && inRange (F .atoms) (atomNumber a)) → (t .0 < 65536) × (atomNumber a < 65536)
+    tagged t a h = (
+      omega (arith, in-range (F .tags) (t .0) (and-l (inRange (F .tags) (t .0)) (inRange (F .atoms) (atomNumber a)) h), w .tags),
+      omega (arith, in-range (F .atoms) (atomNumber a) (and-r (inRange (F .tags) (t .0)) (inRange (F .atoms) (atomNumber a)) h), w .atoms),
+    )
+
+    ranged-fits : (l : Literal) → kind l ≤ mostKind (F .kinds) → T (ranged F l) → Fits l
+    unfolding ranged tagField atomField kind
+    ranged-fits (Signed a) k h = (omega arith, omega (arith, in-range (F .atoms) (atomNumber a) h, w .atoms))
+    ranged-fits (Defeated t a) k h = tagged t a h
+    ranged-fits (Derived t a) k h = tagged t a h
+    ranged-fits (RuleDefeated n) k h = (omega arith, omega (arith, in-range (F .numbers) (n .0) h, w .numbers k))
+
+    pub takes-fits : (l : Literal) → T (takes F l) → Fits l
+    takes-fits l h = ranged-fits l (takes-kind l h) (takes-ranged l h)
 
 -- what is right is a literal, and what is not right is none
 pub valid-some : (d : Decoded) → isValid d ≡ true → (l : Literal) × (d ≡ Valid l)

@@ -3,11 +3,11 @@
 -- of what a form takes.
 -- Assumes nothing.
 use Prim.Native.Nat.{ℕ, _+_, _*_, _/_, _%_, _^_, _≤_, _<_}
+use native.Mathlib.Nat.{mul-le-mul-right, pow-succ'}
+use native.Mathlib.Omega.{arith}
 use mathlib.Core.Bool.{Bool, true, false, _&&_, _||_}
 use mathlib.Core.List.{List, [], _∷_, _++_}
 use mathlib.Core.Path.{_≡_, refl, sym, ap, _∙_}
-use native.Mathlib.Nat.{mul-le-mul-right, pow-succ'}
-use native.Mathlib.Omega.{arith}
 use lib.Arith.{digits-lt, digits-div, digits-mod}
 use lib.Dec.{T, ltb, leb, eqb, leb→le}
 use lib.Ieee.Fits.{and-l, and-r}
@@ -22,7 +22,7 @@ use Rattle.literal.specs.declared.Literal.the-variants.{Signed, Defeated
 use Rattle.literal.specs.Literal.{Valid, atomNumber, kind, tagField, atomField, encoded, inRange, ranged, takes, decoded}
 use Rattle.literal.specs.Order.{bytesBefore, key, before}
 use Rattle.literal.specs.Code.{keyAt, keyRoom}
-use Rattle.literal.proofs.Laws.Literal.{bytes-encoded, fields-injective, encoded-decoded, takes-ranged}
+use Rattle.literal.proofs.Laws.Literal.{Fits, bytes-encoded, fields-injective, encoded-decoded, takes-ranged}
 
 -- the number that a byte string spells, the highest byte first
 value : List ℕ → ℕ
@@ -120,29 +120,23 @@ digits-injective c q r p s hr hs e = (
   sym (digits-mod q hr) ∙ ap (λ (n : ℕ). n % c) e ∙ digits-mod p hs,
 )
 
-module _
-    (l m : Literal)
-    (tl : tagField l < 65536)
-    (al : atomField l < 65536)
-    (tm : tagField m < 65536)
-    (am : atomField m < 65536)
-  where
-    -- literals stand in the order of their bytes
-    pub before-bytes : before l m ≡ bytesBefore (encoded l) (encoded m)
-    unfolding before encoded
-    before-bytes =
-        rw (← keyAt-encoded l [], ← keyAt-encoded m [])
-        (sym (bytesBefore-keyAt (encoded l) (encoded m) (bytes-encoded l tl al) (bytes-encoded m tm am)
-        (omega arith) (omega arith)))
+module _ (l m : Literal) (fl : Fits l) (fm : Fits m) where
+  -- literals stand in the order of their bytes
+  pub before-bytes : before l m ≡ bytesBefore (encoded l) (encoded m)
+  unfolding before encoded
+  before-bytes =
+      rw (← keyAt-encoded l [], ← keyAt-encoded m [])
+      (sym (bytesBefore-keyAt (encoded l) (encoded m) (bytes-encoded l fl) (bytes-encoded m fm)
+      (omega arith) (omega arith)))
 
-    -- no two literals have the same key
-    pub key-injective : key l ≡ key m → l ≡ m
-    unfolding key
-    key-injective e =
-        let top : Literal → ℕ = λ n. kind n * 65536 + tagField n in
-        let low = digits-injective 65536 (top l) (atomField l) (top m) (atomField m) al am e in
-        let high = digits-injective 65536 (kind l) (tagField l) (kind m) (tagField m) tl tm (low .0) in
-        fields-injective l m (record { of-kind = high .0; of-tag = high .1; of-atom = low .1 })
+  -- no two literals have the same key
+  pub key-injective : key l ≡ key m → l ≡ m
+  unfolding key
+  key-injective e =
+      let top : Literal → ℕ = λ n. kind n * 65536 + tagField n in
+      let low = digits-injective 65536 (top l) (atomField l) (top m) (atomField m) (fl .1) (fm .1) e in
+      let high = digits-injective 65536 (kind l) (tagField l) (kind m) (tagField m) (fl .0) (fm .0) (low .0) in
+      fields-injective l m (record { of-kind = high .0; of-tag = high .1; of-atom = low .1 })
 
 -- what is in range is not 0
 range-positive : (most n : ℕ) → T (inRange most n) → 0 < n

@@ -187,12 +187,14 @@ module _ (F : Limits) (d : Bool) (t : List ℕ) (h b c : ℕ) where
       -- 7: a defeasible head that is empty
       pub body-empty : h ≡ 0 → stepOf (bodyAt F d t h b c) ≡ Step.Refused (refusal HeadWrong 0)
       unfolding stepOf rest andThen
-      body-empty z = ap stepOf (body-defeasible ∙ ap rest (defeasible-empty (numberAt t 2) (take h ls) (take b (drop h ls)) (drop (h + b) ls) (heads-count ∙ z)))
+      body-empty z =
+          ap stepOf (body-defeasible ∙ ap rest (defeasible-empty (numberAt t 2) (take h ls) (take b (drop h ls)) (drop (h + b) ls) (heads-count ∙ z)))
 
       -- 7: one that holds a mark
       pub body-marked : signedKinds t 7 h ≡ false → stepOf (bodyAt F d t h b c) ≡ Step.Refused (refusal HeadWrong 0)
       unfolding stepOf rest andThen
-      body-marked m = ap stepOf (body-defeasible ∙ ap rest (defeasible-marked (numberAt t 2) (take h ls) (take b (drop h ls)) (drop (h + b) ls) (sym heads-kinds ∙ m)))
+      body-marked m =
+          ap stepOf (body-defeasible ∙ ap rest (defeasible-marked (numberAt t 2) (take h ls) (take b (drop h ls)) (drop (h + b) ls) (sym heads-kinds ∙ m)))
 
       -- a defeasible rule
       pub body-signed : 0 < h → signedKinds t 7 h ≡ true → stepOf (bodyAt F d t h b c) ≡ Step.Rule (7 + 5 * (h + b + c))

@@ -34,7 +34,8 @@ rules-placed F (suc f) t at n k h = go (recordAt F n t) refl (record-placed F n 
     entry end w ih = tt
     entry (rule r size) w ih =
         let sized = record-size F n t r size w in
-        and-then-placed k (rulesFrom F f (drop size t) (at + size) (n + 1)) (λ p. accepted (r ∷ p)) (ih size (omega (arith, sized .fits, length-drop size t))) (λ p. tt)
+        and-then-placed k (rulesFrom F f (drop size t) (at + size) (n + 1)) (λ p. accepted (r ∷ p))
+        (ih size (omega (arith, sized .fits, length-drop size t))) (λ p. tt)
 
     go : (x : Result Entry) → recordAt F n t ≡ x → Placed (length t) x → Rest → Placed k (after x)
     go (refused y) w p ih = omega arith

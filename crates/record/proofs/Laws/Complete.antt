@@ -8,30 +8,30 @@ use mathlib.Core.Path.{_≡_, refl, sym, _∙_, ap, subst}
 use mathlib.Core.Bool.{Bool, true, false, not, _&&_}
 use mathlib.Core.List.{List, [], _∷_, _++_, map, append-assoc}
 use mathlib.Core.Option.{Option, none, some}
-use lib.Dec.{T, leb, eqb, eqb-refl, leb→le}
+use lib.Dec.{T, eqb, eqb-refl}
 use lib.ListN.{length, take, drop, length-append, length-map}
 use lib.Seq.{drop-drop, take-append-seam, drop-append-seam, drop-at}
 use borrow.Author.Tests.{le-ltb, lt-leb}
 use Rattle.buffer.specs.Bytes.{numberAt}
 use Rattle.literal.specs.declared.Limits.{Limits}
 use Rattle.literal.specs.declared.SignedAtom.{SignedAtom}
-use Rattle.literal.specs.declared.Tag.{Tag}
 use Rattle.literal.specs.declared.Literal.{Literal}
 use Rattle.literal.specs.declared.Literal.the-variants.{Signed}
 use Rattle.literal.specs.Literal.{Decoded}
 use Rattle.literal.specs.Literal.{Valid, Wrong}
-use Rattle.literal.specs.Literal.{encoded, decoded, takes, inRange}
+use Rattle.literal.specs.Literal.{encoded, decoded, takes}
 use Rattle.literal.proofs.Laws.Literal.{decoded-encoded}
 use Rattle.semantics.specs.Set.{eachOf}
 use Rattle.semantics.specs.Rule.{Rule, strict, defeasible, Program, head, positive, naf}
 use Rattle.semantics.specs.Translation.{recordLength}
-use Rattle.semantics.specs.Form.{keepsCounts, keepsTag, keepsRule}
+use Rattle.semantics.specs.Form.{keepsCounts, keepsRule}
 use Rattle.semantics.proofs.Laws.Tests.{both, first, second, is-true, along, all-append}
-use Rattle.semantics.proofs.Laws.Form.{keeps-tag, keeps-counts, keeps-head, keeps-positive, keeps-naf}
+use Rattle.semantics.proofs.Laws.Form.{kept}
 use Rattle.record.specs.declared.Reason.the-variants.{LiteralWrong, HeadWrong}
-use Rattle.record.specs.Refusal.{refusal}
 use Rattle.record.specs.declared.Mark.{Mark}
 use Rattle.record.specs.declared.Mark.the-variants.{RuleMark}
+use Rattle.record.specs.Header.{strictLetter, defeasibleLetter}
+use Rattle.record.specs.Refusal.{refusal}
 use Rattle.record.specs.Result.{Result, accepted, refused, andThen, refuseIf}
 use Rattle.record.specs.Layout.{encodedLiterals, ruleRecord, encodedRule, encodedRules, encodedEnd}
 use Rattle.record.specs.Reading.{Entry, rule, end, literalsAt, optionsOf, defeasibleRule, ruleOf, tagRight, bodyAt, ruleAt, endAt, marked, pickMark, markAt, markedRecord, recordAt, rulesFrom}
@@ -138,14 +138,16 @@ defeasible-made : (tag : ℕ) (a : SignedAtom) (h : List SignedAtom) (b c : List
     → defeasibleRule tag (map Signed (a ∷ h)) b c ≡ accepted (defeasible (record { 0 = tag }) (a ∷ h) b c)
 unfolding defeasibleRule
 defeasible-made tag a h b c =
-    ap (λ (o : Option (List SignedAtom)). elim o as (λ x. Result Rule) [ some os ↦ accepted (defeasible (record { 0 = tag }) os b c) | none ↦ refused (refusal HeadWrong 0) ]) (options-of (a ∷ h))
+    let made : List SignedAtom → Result Rule = λ os. accepted (defeasible (record { 0 = tag }) os b c) in
+    ap (λ (o : Option (List SignedAtom)). elim o as (λ x. Result Rule) [ some os ↦ made os | none ↦ refused (refusal HeadWrong 0) ]) (options-of (a ∷ h))
 
 -- the marks at a record's start
-strict-mark : (F : Limits) (tag : ℕ) (h b c : List Literal) (rest : List ℕ) → markAt F (ruleRecord 0x53 tag h b c ++ rest) ≡ RuleMark false
+strict-mark : (F : Limits) (tag : ℕ) (h b c : List Literal) (rest : List ℕ) → markAt F (ruleRecord strictLetter tag h b c ++ rest) ≡ RuleMark false
 unfolding markAt marked pickMark ruleRecord
 strict-mark F tag h b c rest = refl
 
-defeasible-mark : (F : Limits) (tag : ℕ) (h b c : List Literal) (rest : List ℕ) → T (F .defeasible) → markAt F (ruleRecord 0x44 tag h b c ++ rest) ≡ RuleMark true
+defeasible-mark : (F : Limits) (tag : ℕ) (h b c : List Literal) (rest : List ℕ) → T (F .defeasible)
+    → markAt F (ruleRecord defeasibleLetter tag h b c ++ rest) ≡ RuleMark true
 unfolding markAt marked pickMark ruleRecord
 defeasible-mark F tag h b c rest k = ap (λ (x : Bool). pickMark false x false) (is-true (F .defeasible) k)
 
@@ -153,9 +155,10 @@ module _ (F : Limits) where
   -- the literals of a rule within the limits, one behind the other
   joined : (r : Rule) → T (keepsRule F r) → T (eachOf (takes F) (head r ++ (positive r ++ naf r)))
   joined r k =
+      let w = kept F r k in
       along (sym (all-append (takes F) (head r) (positive r ++ naf r)))
-      (both (eachOf (takes F) (head r)) (eachOf (takes F) (positive r ++ naf r)) (keeps-head F r k)
-      (along (sym (all-append (takes F) (positive r) (naf r))) (both (eachOf (takes F) (positive r)) (eachOf (takes F) (naf r)) (keeps-positive F r k) (keeps-naf F r k))))
+      (both (eachOf (takes F) (head r)) (eachOf (takes F) (positive r ++ naf r)) (w .head-taken)
+      (along (sym (all-append (takes F) (positive r) (naf r))) (both (eachOf (takes F) (positive r)) _ (w .positive-taken) (w .naf-taken))))
 
   two : (t : List ℕ) → 2 ≤ length t → (n : ℕ) → recordAt F n t ≡ markedRecord F (markAt F t) n t
   unfolding recordAt
@@ -176,34 +179,27 @@ module _ (F : Limits) where
       regroup : length h + length b + length c ≡ length h + (length b + length c)
       regroup = omega arith
 
-  -- a defeasible rule within the limits has an option, and its tag is the form's
-  defeasible-right : (t : Tag) (h : List SignedAtom) (b c : List Literal) → T (keepsRule F (defeasible t h b c)) → T (F .defeasible) × T (inRange (F .tags) (t .0)) × (1 ≤ length h)
-  unfolding keepsTag
-  defeasible-right t h b c k =
-      let w = keeps-tag F (defeasible t h b c) k in
-      let v = second (F .defeasible) (inRange (F .tags) (t .0) && leb 1 (length h)) w in (
-        first (F .defeasible) (inRange (F .tags) (t .0) && leb 1 (length h)) w,
-        first (inRange (F .tags) (t .0)) (leb 1 (length h)) v,
-        leb→le 1 (length h) (second (inRange (F .tags) (t .0)) (leb 1 (length h)) v),
-      )
-
   -- the record of a rule within the limits is read as that rule
-  pub record-complete : (r : Rule) (n : ℕ) (rest : List ℕ) → T (keepsRule F r) → n < F .rules → recordAt F n (encodedRule r ++ rest) ≡ accepted (rule r (recordLength r))
+  pub record-complete : (r : Rule) (n : ℕ) (rest : List ℕ) → T (keepsRule F r) → n < F .rules
+      → recordAt F n (encodedRule r ++ rest) ≡ accepted (rule r (recordLength r))
   unfolding encodedRule recordLength head positive naf tagRight
   record-complete (strict h b c) n rest k room =
-      marked-complete false n 0x53 0 h b c rest (strict h b c) (strict-mark F 0 h b c rest) (joined (strict h b c) k) (keeps-counts F (strict h b c) k) tt room (strict-of 0 h b c)
-  record-complete (defeasible t [] b c) n rest k room = absurd (omega (arith, defeasible-right t [] b c k .2))
+      marked-complete false n strictLetter 0 h b c rest (strict h b c) (strict-mark F 0 h b c rest) (joined (strict h b c) k)
+      (kept F (strict h b c) k .counts) tt room (strict-of 0 h b c)
+  record-complete (defeasible t [] b c) n rest k room = absurd (omega (arith, kept F (defeasible t [] b c) k .tag .some))
   record-complete (defeasible t (a ∷ h) b c) n rest k room =
-      let w = defeasible-right t (a ∷ h) b c k in
-      marked-complete true n 0x44 (t .0) (map Signed (a ∷ h)) b c rest (defeasible t (a ∷ h) b c) (defeasible-mark F (t .0) (map Signed (a ∷ h)) b c rest (w .0))
-      (joined (defeasible t (a ∷ h) b c) k) (keeps-counts F (defeasible t (a ∷ h) b c) k) (w .1) room
+      let w = kept F (defeasible t (a ∷ h) b c) k in
+      marked-complete true n defeasibleLetter (t .0) (map Signed (a ∷ h)) b c rest (defeasible t (a ∷ h) b c)
+      (defeasible-mark F (t .0) (map Signed (a ∷ h)) b c rest (w .tag .form)) (joined (defeasible t (a ∷ h) b c) k) (w .counts) (w .tag .range) room
       (defeasible-split (t .0) (map Signed (a ∷ h)) b c ∙ defeasible-made (t .0) a h b c)
       ∙ ap (λ (m : ℕ). accepted (rule (defeasible t (a ∷ h) b c) (7 + 5 * (m + (length b + length c))))) (length-map (a ∷ h) Signed)
 
   -- the end record of the rules held
   end-complete : (n : ℕ) → recordAt F n (encodedEnd n) ≡ accepted end
   unfolding recordAt refuseIf markAt marked pickMark markedRecord encodedEnd endAt
-  end-complete n = refuse-if-false _ _ _ (failed (eqb (n / 256 * 256 + n % 256) n && true) (both (eqb (n / 256 * 256 + n % 256) n) true (subst (λ (k : ℕ). T (eqb k n)) whole (eqb-refl n)) tt))
+  end-complete n =
+      refuse-if-false _ _ _
+      (failed (eqb (n / 256 * 256 + n % 256) n && true) (both (eqb (n / 256 * 256 + n % 256) n) true (subst (λ (k : ℕ). T (eqb k n)) whole (eqb-refl n)) tt))
     where
       whole : n ≡ n / 256 * 256 + n % 256
       whole = omega arith
@@ -217,8 +213,9 @@ module _ (F : Limits) where
       rules-end F f (encodedEnd (n + 0)) at n (ap (λ (m : ℕ). recordAt F n (encodedEnd m)) (add-zero n) ∙ end-complete n)
   rules-complete (suc f) (r ∷ p) at n k room fuel =
       ap (λ (bs : List ℕ). rulesFrom F (suc f) bs at n) (append-assoc (encodedRule r) (encodedRules p) (encodedEnd (n + length (r ∷ p))))
-      ∙ rules-rule F f (encodedRule r ++ rest) at n r (recordLength r) (record-complete r n rest (first (keepsRule F r) (eachOf (keepsRule F) p) k) (omega arith))
-      ∙ ap (λ (q : Result Program). andThen q (λ w. accepted (r ∷ w))) (behind ∙ rules-complete f p (at + recordLength r) (n + 1) (second (keepsRule F r) (eachOf (keepsRule F) p) k) (omega arith) (omega arith))
+      ∙ rules-rule F f (encodedRule r ++ rest) at n r (recordLength r) (record-complete r n rest (first (keepsRule F r) _ k) (omega arith))
+      ∙ ap (λ (q : Result Program). andThen q (λ w. accepted (r ∷ w)))
+      (behind ∙ rules-complete f p (at + recordLength r) (n + 1) (second (keepsRule F r) _ k) (omega arith) (omega arith))
       ∙ accepted-and-then p (λ w. accepted (r ∷ w))
     where
       rest : List ℕ
@@ -227,7 +224,8 @@ module _ (F : Limits) where
       next : n + length (r ∷ p) ≡ n + 1 + length p
       next = omega arith
 
-      behind : rulesFrom F f (drop (recordLength r) (encodedRule r ++ rest)) (at + recordLength r) (n + 1) ≡ rulesFrom F f (encodedRules p ++ encodedEnd (n + 1 + length p)) (at + recordLength r) (n + 1)
+      behind : rulesFrom F f (drop (recordLength r) (encodedRule r ++ rest)) (at + recordLength r) (n + 1)
+          ≡ rulesFrom F f (encodedRules p ++ encodedEnd (n + 1 + length p)) (at + recordLength r) (n + 1)
       behind =
           ap (λ (bs : List ℕ). rulesFrom F f bs (at + recordLength r) (n + 1))
           (drop-at (encodedRule r) rest (recordLength r) (length-encoded-rule r) ∙ ap (λ (m : ℕ). encodedRules p ++ encodedEnd m) next)

@@ -4,7 +4,7 @@ use mathlib.Core.Path.{_≡_, _∙_, ap}
 use mathlib.Core.Bool.{Bool, true, false, not, _&&_, and-false}
 use mathlib.Core.List.{List}
 use lib.Dec.{eqb}
-use lib.ListN.{length, getD}
+use lib.ListN.{length}
 use borrow.Author.Tests.{le-ltb, lt-ltb, le-leb, lt-leb, eq-eqb, ne-eqb}
 use Rattle.buffer.specs.Bytes.{numberAt}
 use Rattle.literal.specs.declared.Limits.{Limits}
@@ -13,6 +13,7 @@ use Rattle.record.specs.declared.Reason.the-variants.{MarkCut, MarkWrong
 use Rattle.record.specs.declared.Mark.{Mark}
 use Rattle.record.specs.declared.Mark.the-variants.{RuleMark, EndMark, NoMark}
 use Rattle.record.specs.declared.Step.{Step}
+use Rattle.record.specs.Header.{headCount, positiveCount, nafCount}
 use Rattle.record.specs.Refusal.{refusal}
 use Rattle.record.specs.Result.{accepted, refuseIf}
 use Rattle.record.specs.Reading.{end, tagRight, bodyAt, ruleAt, endAt, markAt, markedRecord, recordAt}
@@ -35,7 +36,8 @@ module _ (F : Limits) (d : Bool) (n : ℕ) (t : List ℕ) where
     module _ (room : n < F .rules) where
       rule-room : ruleAt F d n t
           ≡ refuseIf (not (tagRight F d (numberAt t 2))) (refusal TagWrong 0)
-          (refuseIf (not (keepsCounts F (getD t 4 0) (getD t 5 0) (getD t 6 0))) (refusal TooManyLiterals 0) (bodyAt F d t (getD t 4 0) (getD t 5 0) (getD t 6 0)))
+          (refuseIf (not (keepsCounts F (headCount t) (positiveCount t) (nafCount t))) (refusal TooManyLiterals 0)
+          (bodyAt F d t (headCount t) (positiveCount t) (nafCount t)))
       unfolding ruleAt
       rule-room = refuse-if-false _ _ _ (le-ltb (length t) 7 whole) ∙ refuse-if-false _ _ _ (lt-leb (F .rules) n room)
 
@@ -46,14 +48,16 @@ module _ (F : Limits) (d : Bool) (n : ℕ) (t : List ℕ) where
 
       module _ (tag : tagRight F d (numberAt t 2) ≡ true) where
         -- 4: a count over its limit
-        pub rule-counts : keepsCounts F (getD t 4 0) (getD t 5 0) (getD t 6 0) ≡ false → stepOf (ruleAt F d n t) ≡ Step.Refused (refusal TooManyLiterals 0)
+        pub rule-counts : keepsCounts F (headCount t) (positiveCount t) (nafCount t) ≡ false
+            → stepOf (ruleAt F d n t) ≡ Step.Refused (refusal TooManyLiterals 0)
         unfolding stepOf
         rule-counts e =
             ap stepOf (rule-room ∙ refuse-if-false _ _ _ (ap not tag)
             ∙ refuse-if-true _ _ _ (ap not e))
 
         -- then the body
-        pub rule-body : keepsCounts F (getD t 4 0) (getD t 5 0) (getD t 6 0) ≡ true → stepOf (ruleAt F d n t) ≡ stepOf (bodyAt F d t (getD t 4 0) (getD t 5 0) (getD t 6 0))
+        pub rule-body : keepsCounts F (headCount t) (positiveCount t) (nafCount t) ≡ true
+            → stepOf (ruleAt F d n t) ≡ stepOf (bodyAt F d t (headCount t) (positiveCount t) (nafCount t))
         rule-body e =
             ap stepOf (rule-room ∙ refuse-if-false _ _ _ (ap not tag)
             ∙ refuse-if-false _ _ _ (ap not e))

@@ -11,6 +11,7 @@ use Rattle.literal.proofs.Laws.Literal.{length-encoded}
 use Rattle.semantics.specs.Rule.{Rule, strict, defeasible, Program}
 use Rattle.semantics.specs.Translation.{recordLength}
 use Rattle.semantics.proofs.Laws.Length.{recordsLength, programLength}
+use Rattle.record.specs.Header.{strictLetter, defeasibleLetter}
 use Rattle.record.specs.Layout.{encodedLiterals, ruleRecord, encodedRule, encodedRules, encodedEnd, encodedProgram}
 
 pub encoded-literals-append : (ls ms : List Literal) → encodedLiterals (ls ++ ms) ≡ encodedLiterals ls ++ encodedLiterals ms
@@ -34,8 +35,8 @@ length-rule-record letter tag h b c =
 -- a record's bytes are as many as the sum says
 pub length-encoded-rule : (r : Rule) → length (encodedRule r) ≡ recordLength r
 unfolding encodedRule recordLength
-length-encoded-rule (strict h b c) = length-rule-record 0x53 0 h b c
-length-encoded-rule (defeasible t h b c) = length-rule-record 0x44 (t .0) (map Signed h) b c ∙ omega (arith, length-map h Signed)
+length-encoded-rule (strict h b c) = length-rule-record strictLetter 0 h b c
+length-encoded-rule (defeasible t h b c) = length-rule-record defeasibleLetter (t .0) (map Signed h) b c ∙ omega (arith, length-map h Signed)
 
 pub length-encoded-rules : (p : Program) → length (encodedRules p) ≡ recordsLength p
 unfolding encodedRules recordsLength
@@ -43,9 +44,21 @@ length-encoded-rules [] = refl
 length-encoded-rules (r ∷ p) =
     length-append (encodedRule r) (encodedRules p) ∙ omega (arith, length-encoded-rule r, length-encoded-rules p)
 
+-- the records of an append
+pub encoded-rules-append : (p q : Program) → encodedRules (p ++ q) ≡ encodedRules p ++ encodedRules q
+unfolding encodedRules
+encoded-rules-append [] q = refl
+encoded-rules-append (r ∷ p) q =
+    ap (λ (bs : List ℕ). encodedRule r ++ bs) (encoded-rules-append p q) ∙ sym (append-assoc (encodedRule r) (encodedRules p) (encodedRules q))
+
 pub length-encoded-program : (p : Program) → length (encodedProgram p) ≡ programLength p
 unfolding encodedProgram programLength encodedEnd
 length-encoded-program p = length-append (encodedRules p) (encodedEnd (length p)) ∙ omega (arith, length-encoded-rules p)
+
+-- an end record has four bytes
+pub length-program : (p : Program) → length (encodedProgram p) ≡ 4 + length (encodedRules p)
+unfolding encodedProgram encodedEnd
+length-program p = length-append (encodedRules p) (encodedEnd (length p)) ∙ omega arith
 
 -- a record has a byte at least, so that a program has no more rules than bytes
 record-large : (r : Rule) → 7 ≤ recordLength r

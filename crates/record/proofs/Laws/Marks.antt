@@ -9,41 +9,53 @@ use borrow.Author.Tests.{eq-eqb, ne-eqb}
 use Rattle.literal.specs.declared.Limits.{Limits}
 use Rattle.record.specs.declared.Mark.{Mark}
 use Rattle.record.specs.declared.Mark.the-variants.{RuleMark, EndMark, NoMark}
-use Rattle.record.specs.Layout.{colon}
+use Rattle.record.specs.Header.{strictLetter, defeasibleLetter, endLetter, letterOf, colon}
 use Rattle.record.specs.Reading.{marked, pickMark, markAt}
 
 -- the mark of a letter, before a colon
 pub letterMark : Limits → ℕ → Mark
-letterMark F letter = pickMark (eqb letter 0x53) (eqb letter 0x44 && F .defeasible) (eqb letter 0x45)
+letterMark F letter = pickMark (eqb letter strictLetter) (eqb letter defeasibleLetter && F .defeasible) (eqb letter endLetter)
 
 module _ (F : Limits) (t : List ℕ) where
   -- without a colon there is no mark
   pub mark-uncolon : (getD t 1 0 ≡ colon → ⊥) → markAt F t ≡ NoMark
   unfolding markAt marked pickMark
-  mark-uncolon n = rw (ne-eqb (getD t 1 0) colon n, and-false (eqb (getD t 0 0) 0x53), and-false (eqb (getD t 0 0) 0x44), and-false (eqb (getD t 0 0) 0x45))
+  mark-uncolon n =
+      rw (
+        ne-eqb (getD t 1 0) colon n,
+        and-false (eqb (letterOf t) strictLetter),
+        and-false (eqb (letterOf t) defeasibleLetter),
+        and-false (eqb (letterOf t) endLetter),
+      )
 
   -- with one, the letter says which it is
-  pub mark-colon : getD t 1 0 ≡ colon → markAt F t ≡ letterMark F (getD t 0 0)
+  pub mark-colon : getD t 1 0 ≡ colon → markAt F t ≡ letterMark F (letterOf t)
   unfolding markAt marked letterMark
-  mark-colon e = rw (eq-eqb (getD t 1 0) colon e, and-true (eqb (getD t 0 0) 0x53), and-true (eqb (getD t 0 0) 0x44), and-true (eqb (getD t 0 0) 0x45))
+  mark-colon e =
+      rw (
+        eq-eqb (getD t 1 0) colon e,
+        and-true (eqb (letterOf t) strictLetter),
+        and-true (eqb (letterOf t) defeasibleLetter),
+        and-true (eqb (letterOf t) endLetter),
+      )
 
 module _ (F : Limits) (l : ℕ) where
-  pub letter-s : l ≡ 0x53 → letterMark F l ≡ RuleMark false
+  pub letter-s : l ≡ strictLetter → letterMark F l ≡ RuleMark false
   unfolding letterMark pickMark
   letter-s e = rw e
 
-  pub letter-d : l ≡ 0x44 → F .defeasible ≡ true → letterMark F l ≡ RuleMark true
+  pub letter-d : l ≡ defeasibleLetter → F .defeasible ≡ true → letterMark F l ≡ RuleMark true
   unfolding letterMark pickMark
   letter-d e d = rw (e, d)
 
-  pub letter-d-plain : l ≡ 0x44 → F .defeasible ≡ false → letterMark F l ≡ NoMark
+  pub letter-d-plain : l ≡ defeasibleLetter → F .defeasible ≡ false → letterMark F l ≡ NoMark
   unfolding letterMark pickMark
   letter-d-plain e d = rw (e, d)
 
-  pub letter-e : l ≡ 0x45 → letterMark F l ≡ EndMark
+  pub letter-e : l ≡ endLetter → letterMark F l ≡ EndMark
   unfolding letterMark pickMark
   letter-e e = rw e
 
-  pub letter-other : (l ≡ 0x53 → ⊥) → (l ≡ 0x44 → ⊥) → (l ≡ 0x45 → ⊥) → letterMark F l ≡ NoMark
+  pub letter-other : (l ≡ strictLetter → ⊥) → (l ≡ defeasibleLetter → ⊥) → (l ≡ endLetter → ⊥) → letterMark F l ≡ NoMark
   unfolding letterMark pickMark
-  letter-other s d e = rw (ne-eqb l 0x53 s, ne-eqb l 0x44 d, ne-eqb l 0x45 e)
+  letter-other s d e = rw (ne-eqb l strictLetter s, ne-eqb l defeasibleLetter d, ne-eqb l endLetter e)

@@ -5,7 +5,7 @@ use mathlib.Core.Path.{_≡_, refl, subst}
 use mathlib.Core.Bool.{Bool, true, false}
 use mathlib.Core.List.{List, [], _∷_}
 use mathlib.Core.Option.{Option, none, some}
-use lib.ListN.{length, getD, take, drop}
+use lib.ListN.{length, take, drop}
 use borrow.Author.Tests.{ltb-false}
 use Rattle.buffer.specs.Bytes.{numberAt}
 use Rattle.literal.specs.declared.Limits.{Limits}
@@ -20,6 +20,7 @@ use Rattle.record.specs.declared.Refusal.{Refusal}
 use Rattle.record.specs.declared.Mark.{Mark}
 use Rattle.record.specs.declared.Mark.the-variants.{RuleMark, EndMark, NoMark}
 use Rattle.record.specs.declared.Step.{Step}
+use Rattle.record.specs.Header.{headCount, positiveCount, nafCount}
 use Rattle.record.specs.Refusal.{refusal}
 use Rattle.record.specs.Result.{Result, accepted, refused, andThen, refuseIf}
 use Rattle.record.specs.Reading.{literalsAt, optionsOf, defeasibleRule, ruleOf, bodyAt, ruleAt, endAt, markAt, markedRecord, recordAt}
@@ -59,7 +60,11 @@ defeasible-placed k tag [] b c = omega arith
 defeasible-placed k tag (l ∷ h) b c = go (optionsOf (l ∷ h))
   where
     go : (o : Option (List SignedAtom))
-        → Placed {A = Rule} k (elim o as (λ x. Result Rule) [ some os ↦ accepted (defeasible (record { 0 = tag }) os b c) | none ↦ refused (refusal HeadWrong 0) ])
+        → Placed {A = Rule} k (elim o as (λ x. Result Rule) [
+          | some os ↦ accepted
+              (defeasible (record { 0 = tag }) os b c)
+          | none ↦ refused (refusal HeadWrong 0)
+        ])
     go (some os) = tt
     go none = omega arith
 
@@ -72,7 +77,8 @@ body-placed : (F : Limits) (d : Bool) (t : List ℕ) (h b c : ℕ) → Placed (l
 unfolding bodyAt
 body-placed F d t h b c =
     refuse-if-placed (length t) _ _ _ (omega arith)
-    (λ e. and-then-placed (length t) (literalsAt F t 7 (h + b + c)) _ (literals-placed F t (length t) (h + b + c) 7 (ltb-false (length t) (7 + 5 * (h + b + c)) e))
+    (λ e. and-then-placed (length t) (literalsAt F t 7 (h + b + c)) _
+    (literals-placed F t (length t) (h + b + c) 7 (ltb-false (length t) (7 + 5 * (h + b + c)) e))
     (λ ls. and-then-placed (length t) (ruleOf d (numberAt t 2) h b ls) _ (rule-of-placed (length t) d (numberAt t 2) h b ls) (λ r. tt)))
 
 rule-placed : (F : Limits) (d : Bool) (n : ℕ) (t : List ℕ) → Placed (length t) (ruleAt F d n t)
@@ -82,7 +88,7 @@ rule-placed F d n t =
     (λ e. refuse-if-placed (length t) _ _ _ (omega arith)
     (λ e. refuse-if-placed (length t) _ _ _ (omega arith)
     (λ e. refuse-if-placed (length t) _ _ _ (omega arith)
-    (λ e. body-placed F d t (getD t 4 0) (getD t 5 0) (getD t 6 0)))))
+    (λ e. body-placed F d t (headCount t) (positiveCount t) (nafCount t)))))
 
 end-placed : (k n : ℕ) (t : List ℕ) → Placed k (endAt n t)
 unfolding endAt

@@ -7,7 +7,7 @@ use native.Mathlib.Nat.{add-zero, zero-add}
 use mathlib.Core.Path.{_≡_, refl, sym, _∙_, ap}
 use mathlib.Core.Bool.{Bool}
 use mathlib.Core.List.{List, _∷_}
-use lib.ListN.{length, getD, drop}
+use lib.ListN.{length, drop}
 use lib.Seq.{drop-drop}
 use borrow.Author.Tests.{le-ltb, lt-ltb, ltb-false}
 use Rattle.buffer.specs.Bytes.{numberAt}
@@ -19,6 +19,7 @@ use Rattle.record.specs.declared.Mark.{Mark}
 use Rattle.record.specs.declared.Mark.the-variants.{RuleMark, EndMark, NoMark}
 use Rattle.record.specs.declared.Step.{Step}
 use Rattle.record.specs.declared.Reading.{Reading}
+use Rattle.record.specs.Header.{headCount, positiveCount, nafCount}
 use Rattle.record.specs.Refusal.{refusal, shifted}
 use Rattle.record.specs.Result.{Result, accepted, refused, andThen}
 use Rattle.record.specs.Reading.{Entry, rule, end, literalsAt, ruleOf, bodyAt, ruleAt, endAt, markAt, markedRecord, recordAt, rulesFrom, parsed, readingOf, reading}
@@ -78,7 +79,7 @@ rule-size F d n t r size e =
     let q2 = refuse-if-accepted _ _ _ (rule r size) (q1 .1) in
     let q3 = refuse-if-accepted _ _ _ (rule r size) (q2 .1) in
     let q4 = refuse-if-accepted _ _ _ (rule r size) (q3 .1) in
-    body-size F d t (getD t 4 0) (getD t 5 0) (getD t 6 0) r size (q4 .1)
+    body-size F d t (headCount t) (positiveCount t) (nafCount t) r size (q4 .1)
 
 pub record-size : (F : Limits) (n : ℕ) (t : List ℕ) (r : Rule) (size : ℕ) → recordAt F n t ≡ accepted (rule r size) → Sized t size
 unfolding recordAt markedRecord endAt

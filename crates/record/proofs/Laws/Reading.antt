@@ -5,19 +5,14 @@ use Prim.Native.Nat.{ℕ, _+_, _≤_}
 use native.Mathlib.Omega.{arith}
 use native.Mathlib.Nat.{zero-add}
 use mathlib.Core.Path.{_≡_, refl, sym, _∙_, ap, subst}
-use mathlib.Core.Bool.{_&&_}
 use mathlib.Core.Logic.{_↔_}
 use mathlib.Core.List.{List, _++_}
-use lib.Dec.{T, leb, leb→le, le→leb}
+use lib.Dec.{T}
 use lib.ListN.{length}
 use borrow.Author.Tests.{le-ltb, ltb-false}
 use Rattle.buffer.specs.Bytes.{Bytes}
 use Rattle.literal.specs.declared.Limits.{Limits}
 use Rattle.semantics.specs.Rule.{Program}
-use Rattle.semantics.specs.Form.{keepsRule, keepsRules}
-use Rattle.semantics.specs.Set.{eachOf}
-use Rattle.semantics.proofs.Laws.Tests.{both, first, second}
-use Rattle.semantics.proofs.Laws.Form.{keeps-count, keeps-each}
 use Rattle.record.specs.declared.Refusal.{Refusal}
 use Rattle.record.specs.declared.Reading.{Reading}
 use Rattle.record.specs.Result.{Result, accepted, refused}
@@ -25,6 +20,7 @@ use Rattle.record.specs.Layout.{encodedRules, encodedEnd, encodedProgram
 use Rattle.record.specs.Reading.{rulesFrom, parsed, readingOf}
 use Rattle.record.proofs.Laws.Result.{refuse-if-accepted, refuse-if-false}
 use Rattle.record.proofs.Laws.Layout.{rules-below-length}
+use Rattle.record.proofs.Laws.Keeps.{kept-program, keeps-program}
 use Rattle.record.proofs.Laws.Sound.{rules-sound}
 use Rattle.record.proofs.Laws.Complete.{rules-complete}
 
@@ -43,27 +39,22 @@ module _ {A : Type 0} where
 module _ (F : Limits) where
   -- what is read is the encoding of a program within the limits
   pub parsed-sound : (b : List ℕ) (p : Program) → Bytes b → parsed F b ≡ accepted p → (b ≡ encodedProgram p) × T (keeps F p)
-  unfolding parsed encodedProgram keeps keepsRules
+  unfolding parsed encodedProgram
   parsed-sound b p bytes e =
       let q = refuse-if-accepted _ _ _ p e in
       let w = rules-sound F (length b + 1) b 0 0 p bytes (omega arith) (q .1) in
       let same = w .bytes ∙ ap (λ (n : ℕ). encodedRules p ++ encodedEnd n) (zero-add (length p)) in
-      let short = subst (λ (bs : List ℕ). length bs ≤ F .length) same (ltb-false (F .length) (length b) (q .0)) in (
-        same,
-        both (leb (length p) (F .rules) && eachOf (keepsRule F) p) (leb (length (encodedProgram p)) (F .length))
-            (both (leb (length p) (F .rules)) (eachOf (keepsRule F) p) (le→leb (length p) (F .rules) (omega (arith, w .room))) (w .keeps))
-            (le→leb (length (encodedProgram p)) (F .length) short),
-      )
+      let short = subst (λ (bs : List ℕ). length bs ≤ F .length) same (ltb-false (F .length) (length b) (q .0)) in
+      (same, keeps-program F p (omega (arith, w .room)) (w .keeps) short)
 
   -- the encoding of a program within the limits is read as that program
   pub parsed-complete : (p : Program) → T (keeps F p) → parsed F (encodedProgram p) ≡ accepted p
-  unfolding parsed encodedProgram keeps
+  unfolding parsed encodedProgram
   parsed-complete p k =
-      let rules = first (keepsRules F p) (leb (length (encodedProgram p)) (F .length)) k in
-      let short = leb→le (length (encodedProgram p)) (F .length) (second (keepsRules F p) (leb (length (encodedProgram p)) (F .length)) k) in
-      refuse-if-false _ _ _ (le-ltb (F .length) (length (encodedProgram p)) short)
+      let w = kept-program F p k in
+      refuse-if-false _ _ _ (le-ltb (F .length) (length (encodedProgram p)) (w .short))
       ∙ ap (λ (n : ℕ). rulesFrom F (length (encodedProgram p) + 1) (encodedRules p ++ encodedEnd n) 0 0) (sym (zero-add (length p)))
-      ∙ rules-complete F (length (encodedProgram p) + 1) p 0 0 (keeps-each F p rules) (omega (arith, keeps-count F p rules)) (omega (arith, rules-below-length p))
+      ∙ rules-complete F (length (encodedProgram p) + 1) p 0 0 (w .each) (omega (arith, w .count)) (omega (arith, rules-below-length p))
 
   -- reading accepts b as p exactly if b is the encoding of p and p keeps the form's limits
   pub reading-iff : (b : List ℕ) (p : Program) → Bytes b → (parsed F b ≡ accepted p) ↔ ((b ≡ encodedProgram p) × T (keeps F p))

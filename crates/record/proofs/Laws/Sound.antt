@@ -19,20 +19,19 @@ use Rattle.literal.specs.declared.Limits.{Limits}
 use Rattle.literal.specs.declared.SignedAtom.{SignedAtom}
 use Rattle.literal.specs.declared.Literal.{Literal}
 use Rattle.literal.specs.declared.Literal.the-variants.{Signed, Defeated, Derived, RuleDefeated}
-use Rattle.literal.specs.Literal.{Decoded}
-use Rattle.literal.specs.Literal.{Valid, Wrong}
-use Rattle.literal.specs.Literal.{encoded, decoded, takes, inRange}
+use Rattle.literal.specs.Literal.{Decoded, Valid, Wrong, encoded, decoded, takes, inRange}
 use Rattle.literal.proofs.Laws.Literal.{encoded-decoded}
 use Rattle.semantics.specs.Set.{eachOf}
 use Rattle.semantics.specs.Rule.{Rule, strict, defeasible, Program, head, positive, naf}
 use Rattle.semantics.specs.Form.{keepsCounts, keepsLiterals, keepsTag, keepsRule}
 use Rattle.semantics.proofs.Laws.Tests.{both, first, second, along, all-append}
-use Rattle.record.specs.Refusal.{refusal, shifted}
 use Rattle.record.specs.declared.Reason.the-variants.{LiteralWrong, HeadWrong}
 use Rattle.record.specs.declared.Mark.{Mark}
 use Rattle.record.specs.declared.Mark.the-variants.{RuleMark, EndMark, NoMark}
+use Rattle.record.specs.Header.{strictLetter, defeasibleLetter, endLetter, letterOf, headCount, positiveCount, nafCount, colon}
+use Rattle.record.specs.Refusal.{refusal, shifted}
 use Rattle.record.specs.Result.{Result, accepted, refused, andThen}
-use Rattle.record.specs.Layout.{colon, encodedLiterals, ruleRecord, encodedRule, encodedRules, encodedEnd}
+use Rattle.record.specs.Layout.{encodedLiterals, ruleRecord, encodedRule, encodedRules, encodedEnd}
 use Rattle.record.specs.Reading.{Entry, rule, end, literalsAt, optionsOf, defeasibleRule, ruleOf, tagRight, bodyAt, ruleAt, endAt, marked, pickMark, markAt, markedRecord, recordAt, rulesFrom}
 use Rattle.record.proofs.Laws.Result.{refused-accepted, accepted-eq, and-then-accepted, refuse-if-accepted}
 
@@ -42,7 +41,8 @@ pub record Run (F : Limits) (bs : List ℕ) (n : ℕ) (ls : List Literal) : Type
   pub taken : T (eachOf (takes F) ls)
   pub count : length ls ≡ n
 
-run-cons : (F : Limits) (bs : List ℕ) (n : ℕ) (l : Literal) (ls : List Literal) → (take 5 bs ≡ encoded l) × T (takes F l) → Run F (drop 5 bs) n ls → Run F bs (suc n) (l ∷ ls)
+run-cons : (F : Limits) (bs : List ℕ) (n : ℕ) (l : Literal) (ls : List Literal) → (take 5 bs ≡ encoded l) × T (takes F l)
+    → Run F (drop 5 bs) n ls → Run F bs (suc n) (l ∷ ls)
 unfolding encodedLiterals
 run-cons F bs n l ls h r =
     record {
@@ -55,7 +55,8 @@ run-cons F bs n l ls h r =
     five-more = omega arith
 
 module _ (F : Limits) where
-  pub literals-sound : (t : List ℕ) → Bytes t → (n at : ℕ) (ls : List Literal) → at + 5 * n ≤ length t → literalsAt F t at n ≡ accepted ls → Run F (drop at t) n ls
+  pub literals-sound : (t : List ℕ) → Bytes t → (n at : ℕ) (ls : List Literal) → at + 5 * n ≤ length t
+      → literalsAt F t at n ≡ accepted ls → Run F (drop at t) n ls
   unfolding literalsAt encodedLiterals
   literals-sound t bytes zero at ls fits e =
       let nil : [] ≡ ls = accepted-eq e in
@@ -80,7 +81,7 @@ module _ (F : Limits) where
           subst (Run F (drop at t) (suc n)) (accepted-eq (w .2)) (run-cons F (drop at t) n l (w .0) here rest)
 
 -- a list's first seven elements
-first-seven : (t : List ℕ) → 7 ≤ length t → take 7 t ≡ getD t 0 0 ∷ (getD t 1 0 ∷ (getD t 2 0 ∷ (getD t 3 0 ∷ (getD t 4 0 ∷ (getD t 5 0 ∷ (getD t 6 0 ∷ []))))))
+first-seven : (t : List ℕ) → 7 ≤ length t → take 7 t ≡ letterOf t ∷ getD t 1 0 ∷ getD t 2 0 ∷ getD t 3 0 ∷ headCount t ∷ positiveCount t ∷ nafCount t ∷ []
 first-seven [] h = absurd (omega arith)
 first-seven (a ∷ []) h = absurd (omega arith)
 first-seven (a ∷ b ∷ []) h = absurd (omega arith)
@@ -90,7 +91,7 @@ first-seven (a ∷ b ∷ c ∷ d ∷ e ∷ []) h = absurd (omega arith)
 first-seven (a ∷ b ∷ c ∷ d ∷ e ∷ f ∷ []) h = absurd (omega arith)
 first-seven (a ∷ b ∷ c ∷ d ∷ e ∷ f ∷ g ∷ t) h = refl
 
-first-four : (t : List ℕ) → length t ≡ 4 → t ≡ getD t 0 0 ∷ (getD t 1 0 ∷ (getD t 2 0 ∷ (getD t 3 0 ∷ [])))
+first-four : (t : List ℕ) → length t ≡ 4 → t ≡ letterOf t ∷ getD t 1 0 ∷ getD t 2 0 ∷ getD t 3 0 ∷ []
 first-four [] h = absurd (omega arith)
 first-four (a ∷ []) h = absurd (omega arith)
 first-four (a ∷ b ∷ []) h = absurd (omega arith)
@@ -100,8 +101,8 @@ first-four (a ∷ b ∷ c ∷ d ∷ e ∷ t) h = absurd (omega arith)
 
 -- the letter of a rule's mark
 letter : Bool → ℕ
-letter true = 0x44
-letter false = 0x53
+letter true = defeasibleLetter
+letter false = strictLetter
 
 rule-mark-eq : {d e : Bool} → RuleMark d ≡ RuleMark e → d ≡ e
 rule-mark-eq h = cc
@@ -117,23 +118,24 @@ record MarkIs (F : Limits) (t : List ℕ) (d : Bool) : Type 0 where
   letters : T (marked (letter d) t)
   form : T d → T (F .defeasible)
 
-pick-rule : (F : Limits) (t : List ℕ) (a b c d : Bool) → (T a → T (marked 0x53 t)) → (T b → T (marked 0x44 t && F .defeasible)) → pickMark a b c ≡ RuleMark d → MarkIs F t d
+pick-rule : (F : Limits) (t : List ℕ) (a b c d : Bool) → (T a → T (marked strictLetter t))
+    → (T b → T (marked defeasibleLetter t && F .defeasible)) → pickMark a b c ≡ RuleMark d → MarkIs F t d
 unfolding pickMark letter
 pick-rule F t true b c true f g e = absurd (true≢false (rule-mark-eq (sym e)))
 pick-rule F t true b c false f g e = record { letters = f tt; form = λ z. absurd z }
 pick-rule F t false true c true f g e =
-    record { letters = first (marked 0x44 t) (F .defeasible) (g tt); form = λ z. second (marked 0x44 t) (F .defeasible) (g tt) }
+    record { letters = first (marked defeasibleLetter t) (F .defeasible) (g tt); form = λ z. second (marked defeasibleLetter t) (F .defeasible) (g tt) }
 pick-rule F t false true c false f g e = absurd (true≢false (rule-mark-eq e))
 pick-rule F t false false true d f g e = absurd (end-rule-mark e)
 pick-rule F t false false false d f g e = absurd (no-rule-mark e)
 
 mark-rule : (F : Limits) (t : List ℕ) (d : Bool) → markAt F t ≡ RuleMark d → MarkIs F t d
 unfolding markAt
-mark-rule F t d e = pick-rule F t (marked 0x53 t) (marked 0x44 t && F .defeasible) (marked 0x45 t) d (λ z. z) (λ z. z) e
+mark-rule F t d e = pick-rule F t (marked strictLetter t) (marked defeasibleLetter t && F .defeasible) (marked endLetter t) d (λ z. z) (λ z. z) e
 
-mark-end : (F : Limits) (t : List ℕ) → markAt F t ≡ EndMark → T (marked 0x45 t)
+mark-end : (F : Limits) (t : List ℕ) → markAt F t ≡ EndMark → T (marked endLetter t)
 unfolding markAt pickMark
-mark-end F t e = go (marked 0x53 t) (marked 0x44 t && F .defeasible) (marked 0x45 t) e
+mark-end F t e = go (marked strictLetter t) (marked defeasibleLetter t && F .defeasible) (marked endLetter t) e
   where
     go : (a b c : Bool) → pickMark a b c ≡ EndMark → T c
     go true b c f = absurd (end-rule-mark (sym f))
@@ -147,7 +149,8 @@ unfolding optionsOf
 options-of [] h e = let nil : [] ≡ h = cc in ap (map Signed) (sym nil)
 options-of (Signed a ∷ ls) h e = go (optionsOf ls) e (λ k q. options-of ls k q)
   where
-    go : (o : Option (List SignedAtom)) → (elim o as (λ x. Option (List SignedAtom)) [ some k ↦ some (a ∷ k) | none ↦ none ]) ≡ some h → ((k : List SignedAtom) → o ≡ some k → map Signed k ≡ ls) → map Signed h ≡ Signed a ∷ ls
+    go : (o : Option (List SignedAtom)) → (elim o as (λ x. Option (List SignedAtom)) [ some k ↦ some (a ∷ k) | none ↦ none ]) ≡ some h
+        → ((k : List SignedAtom) → o ≡ some k → map Signed k ≡ ls) → map Signed h ≡ Signed a ∷ ls
     go none f ih = let z : _≡_ {A = ℕ} 0 1 = cc in absurd (omega arith)
     go (some k) f ih = let q : a ∷ k ≡ h = cc in ap (map Signed) (sym q) ∙ ap (λ (ms : List Literal). Signed a ∷ ms) (ih k refl)
 options-of (Defeated t a ∷ ls) h e = let z : _≡_ {A = ℕ} 0 1 = cc in absurd (omega arith)
@@ -184,7 +187,7 @@ module _ (h b c : ℕ) (ls : List Literal) (count : length ls ≡ h + b + c) whe
   split-nafs = omega (arith, length-drop (h + b) ls)
 
   -- a record of the parts is one of the whole
-  split-record : (l tag : ℕ) → ruleRecord l tag heads positives nafs ≡ l ∷ (colon ∷ (twoBytes tag ++ (h ∷ (b ∷ (c ∷ encodedLiterals ls)))))
+  split-record : (l tag : ℕ) → ruleRecord l tag heads positives nafs ≡ l ∷ colon ∷ (twoBytes tag ++ (h ∷ b ∷ c ∷ encodedLiterals ls))
   unfolding ruleRecord
   split-record l tag = simp (split-heads, split-positives, split-nafs, split-whole)
 
@@ -217,7 +220,8 @@ record RuleIs (F : Limits) (bs : List ℕ) (r : Rule) : Type 0 where
   keeps : T (keepsRule F r)
 
 -- the rule of a record whose header and literals are right
-module _ (F : Limits) (tag h b c : ℕ) (ls : List Literal) (count : length ls ≡ h + b + c) (counts : T (keepsCounts F h b c)) (taken : T (eachOf (takes F) ls)) where
+module _ (F : Limits) (tag h b c : ℕ) (ls : List Literal) (count : length ls ≡ h + b + c) (counts : T (keepsCounts F h b c))
+    (taken : T (eachOf (takes F) ls)) where
   hs : List Literal
   hs = heads h b c ls count
 
@@ -231,29 +235,33 @@ module _ (F : Limits) (tag h b c : ℕ) (ls : List Literal) (count : length ls �
   unfolding bs cs
   counted k e = simp (e, split-positives h b c ls count, split-nafs h b c ls count) counts
 
-  strict-is : tag ≡ 0 → RuleIs F (0x53 ∷ (colon ∷ (twoBytes tag ++ (h ∷ (b ∷ (c ∷ encodedLiterals ls)))))) (strict hs bs cs)
+  strict-is : tag ≡ 0 → RuleIs F (strictLetter ∷ colon ∷ (twoBytes tag ++ (h ∷ b ∷ c ∷ encodedLiterals ls))) (strict hs bs cs)
   unfolding encodedRule keepsRule keepsTag keepsLiterals head positive naf hs bs cs
   strict-is e =
       record {
-        bytes = ap (λ (n : ℕ). ruleRecord 0x53 n hs bs cs) (sym e) ∙ split-record h b c ls count 0x53 tag;
+        bytes = ap (λ (n : ℕ). ruleRecord strictLetter n hs bs cs) (sym e) ∙ split-record h b c ls count strictLetter tag;
         keeps =
             both (keepsCounts F (length hs) (length bs) (length cs)) (eachOf (takes F) hs && (eachOf (takes F) bs && eachOf (takes F) cs))
             (counted (length hs) (split-heads h b c ls count)) (split-literals h b c ls count F taken);
       }
 
   defeasible-is : (os : List SignedAtom) → map Signed os ≡ hs → 1 ≤ h → T (F .defeasible) → T (inRange (F .tags) tag)
-      → RuleIs F (0x44 ∷ (colon ∷ (twoBytes tag ++ (h ∷ (b ∷ (c ∷ encodedLiterals ls)))))) (defeasible (record { 0 = tag }) os bs cs)
+      → RuleIs F (defeasibleLetter ∷ colon ∷ (twoBytes tag ++ (h ∷ b ∷ c ∷ encodedLiterals ls))) (defeasible (record { 0 = tag }) os bs cs)
   unfolding encodedRule keepsRule keepsTag keepsLiterals head positive naf hs bs cs
   defeasible-is os e full form range =
       record {
-        bytes = ap (λ (ms : List Literal). ruleRecord 0x44 tag ms bs cs) e ∙ split-record h b c ls count 0x44 tag;
+        bytes = ap (λ (ms : List Literal). ruleRecord defeasibleLetter tag ms bs cs) e ∙ split-record h b c ls count defeasibleLetter tag;
         keeps =
-            both (F .defeasible && (inRange (F .tags) tag && leb 1 (length os))) (keepsCounts F (length (map Signed os)) (length bs) (length cs) && (eachOf (takes F) (map Signed os) && (eachOf (takes F) bs && eachOf (takes F) cs)))
+            both (F .defeasible && (inRange (F .tags) tag && leb 1 (length os)))
+            (keepsCounts F (length (map Signed os)) (length bs) (length cs)
+            && (eachOf (takes F) (map Signed os) && (eachOf (takes F) bs && eachOf (takes F) cs)))
             (both (F .defeasible) (inRange (F .tags) tag && leb 1 (length os)) form
             (both (inRange (F .tags) tag) (leb 1 (length os)) range (le→leb 1 (length os) (omega (arith, options, split-heads h b c ls count)))))
-            (both (keepsCounts F (length (map Signed os)) (length bs) (length cs)) (eachOf (takes F) (map Signed os) && (eachOf (takes F) bs && eachOf (takes F) cs))
+            (both (keepsCounts F (length (map Signed os)) (length bs) (length cs))
+            (eachOf (takes F) (map Signed os) && (eachOf (takes F) bs && eachOf (takes F) cs))
             (counted (length (map Signed os)) (ap length e ∙ split-heads h b c ls count))
-            (subst (λ (ms : List Literal). T (eachOf (takes F) ms && (eachOf (takes F) bs && eachOf (takes F) cs))) (sym e) (split-literals h b c ls count F taken)));
+            (subst (λ (ms : List Literal). T (eachOf (takes F) ms && (eachOf (takes F) bs && eachOf (takes F) cs))) (sym e)
+            (split-literals h b c ls count F taken)));
       }
     where
       options : length os ≡ length hs
@@ -261,22 +269,27 @@ module _ (F : Limits) (tag h b c : ℕ) (ls : List Literal) (count : length ls �
 
   -- the rule that the reader makes is such a rule
   rule-of : (d : Bool) → T (tagRight F d tag) → (T d → T (F .defeasible)) → (r : Rule) → ruleOf d tag h b ls ≡ accepted r
-      → RuleIs F (letter d ∷ (colon ∷ (twoBytes tag ++ (h ∷ (b ∷ (c ∷ encodedLiterals ls)))))) r
+      → RuleIs F (letter d ∷ colon ∷ (twoBytes tag ++ (h ∷ b ∷ c ∷ encodedLiterals ls))) r
   unfolding ruleOf tagRight letter hs bs cs heads positives nafs
-  rule-of false right form r e = subst (RuleIs F (0x53 ∷ (colon ∷ (twoBytes tag ++ (h ∷ (b ∷ (c ∷ encodedLiterals ls))))))) (accepted-eq e) (strict-is (eqb→eq tag 0 right))
+  rule-of false right form r e =
+      subst (RuleIs F (strictLetter ∷ colon ∷ (twoBytes tag ++ (h ∷ b ∷ c ∷ encodedLiterals ls)))) (accepted-eq e) (strict-is (eqb→eq tag 0 right))
   rule-of true right form r e =
       let w = defeasible-accepted tag hs bs cs r e in
       let full : 1 ≤ h = omega (arith, w .full, split-heads h b c ls count) in
-      subst (RuleIs F (0x44 ∷ (colon ∷ (twoBytes tag ++ (h ∷ (b ∷ (c ∷ encodedLiterals ls))))))) (w .same) (defeasible-is (w .options) (w .heads) full (form tt) right)
+      subst (RuleIs F (defeasibleLetter ∷ colon ∷ (twoBytes tag ++ (h ∷ b ∷ c ∷ encodedLiterals ls)))) (w .same)
+      (defeasible-is (w .options) (w .heads) full (form tt) right)
 
 -- the header bytes of a marked part
 marked-header : (d : Bool) (t : List ℕ) → Bytes t → 7 ≤ length t → T (marked (letter d) t)
-    → take 7 t ≡ letter d ∷ (colon ∷ (twoBytes (numberAt t 2) ++ (getD t 4 0 ∷ (getD t 5 0 ∷ (getD t 6 0 ∷ [])))))
+    → take 7 t ≡ letter d ∷ colon ∷ (twoBytes (numberAt t 2) ++ (headCount t ∷ positiveCount t ∷ nafCount t ∷ []))
 unfolding marked
 marked-header d t bytes h m =
     first-seven t h
-    ∙ ap₂ (λ (x y : ℕ). x ∷ (y ∷ (getD t 2 0 ∷ (getD t 3 0 ∷ (getD t 4 0 ∷ (getD t 5 0 ∷ (getD t 6 0 ∷ []))))))) (eqb→eq (getD t 0 0) (letter d) (first (eqb (getD t 0 0) (letter d)) (eqb (getD t 1 0) colon) m)) (eqb→eq (getD t 1 0) colon (second (eqb (getD t 0 0) (letter d)) (eqb (getD t 1 0) colon) m))
-    ∙ ap (λ (xs : List ℕ). letter d ∷ (colon ∷ (xs ++ (getD t 4 0 ∷ (getD t 5 0 ∷ (getD t 6 0 ∷ [])))))) (sym (twoBytes-number (getD t 2 0) (getD t 3 0) (bytes 3)))
+    ∙ ap₂ (λ (x y : ℕ). x ∷ y ∷ getD t 2 0 ∷ getD t 3 0 ∷ headCount t ∷ positiveCount t ∷ nafCount t ∷ [])
+    (eqb→eq (letterOf t) (letter d) (first (eqb (letterOf t) (letter d)) (eqb (getD t 1 0) colon) m))
+    (eqb→eq (getD t 1 0) colon (second (eqb (letterOf t) (letter d)) (eqb (getD t 1 0) colon) m))
+    ∙ ap (λ (xs : List ℕ). letter d ∷ colon ∷ (xs ++ (headCount t ∷ positiveCount t ∷ nafCount t ∷ [])))
+    (sym (twoBytes-number (getD t 2 0) (getD t 3 0) (bytes 3)))
 
 -- an accepted rule record
 pub record RuleRead (F : Limits) (n : ℕ) (t : List ℕ) (r : Rule) (size : ℕ) : Type 0 where
@@ -299,12 +312,13 @@ passes b e = along (sym (not-false b e)) tt
 module _ (F : Limits) where
   -- the literals of a record whose header is right
   body-sound : (d : Bool) (n : ℕ) (t : List ℕ) → Bytes t → MarkIs F t d → 7 ≤ length t → n < F .rules → T (tagRight F d (numberAt t 2))
-      → T (keepsCounts F (getD t 4 0) (getD t 5 0) (getD t 6 0)) → (e : Entry) → bodyAt F d t (getD t 4 0) (getD t 5 0) (getD t 6 0) ≡ accepted e → EntryRule F n t e
+      → T (keepsCounts F (headCount t) (positiveCount t) (nafCount t)) → (e : Entry)
+      → bodyAt F d t (headCount t) (positiveCount t) (nafCount t) ≡ accepted e → EntryRule F n t e
   unfolding bodyAt
   body-sound d n t bytes m seven room right counts e q =
-      let h = getD t 4 0 in
-      let b = getD t 5 0 in
-      let c = getD t 6 0 in
+      let h = headCount t in
+      let b = positiveCount t in
+      let c = nafCount t in
       let q1 = refuse-if-accepted _ _ _ e q in
       let q2 = and-then-accepted (literalsAt F t 7 (h + b + c)) _ e (q1 .1) in
       let q3 = and-then-accepted (ruleOf d (numberAt t 2) h b (q2 .0)) _ e (q2 .2) in
@@ -335,10 +349,10 @@ module _ (F : Limits) where
       let q3 = refuse-if-accepted _ _ _ e (q2 .1) in
       let q4 = refuse-if-accepted _ _ _ e (q3 .1) in
       body-sound d n t bytes m (ltb-false (length t) 7 (q1 .0)) (leb-false (F .rules) n (q2 .0)) (passes (tagRight F d (numberAt t 2)) (q3 .0))
-      (passes (keepsCounts F (getD t 4 0) (getD t 5 0) (getD t 6 0)) (q4 .0)) e (q4 .1)
+      (passes (keepsCounts F (headCount t) (positiveCount t) (nafCount t)) (q4 .0)) e (q4 .1)
 
 -- an accepted end record
-end-sound : (n : ℕ) (t : List ℕ) → Bytes t → T (marked 0x45 t) → (e : Entry) → endAt n t ≡ accepted e → (end ≡ e) × (t ≡ encodedEnd n)
+end-sound : (n : ℕ) (t : List ℕ) → Bytes t → T (marked endLetter t) → (e : Entry) → endAt n t ≡ accepted e → (end ≡ e) × (t ≡ encodedEnd n)
 unfolding endAt encodedEnd marked
 end-sound n t bytes m e q =
     let q1 = refuse-if-accepted _ _ _ e q in
@@ -346,12 +360,12 @@ end-sound n t bytes m e q =
     let w = passes (eqb (numberAt t 2) n && eqb (length t) 4) (q2 .0) in
     let number-is = eqb→eq (numberAt t 2) n (first (eqb (numberAt t 2) n) (eqb (length t) 4) w) in
     let four = eqb→eq (length t) 4 (second (eqb (numberAt t 2) n) (eqb (length t) 4) w) in
-    let e-is = eqb→eq (getD t 0 0) 0x45 (first (eqb (getD t 0 0) 0x45) (eqb (getD t 1 0) colon) m) in
-    let colon-is = eqb→eq (getD t 1 0) colon (second (eqb (getD t 0 0) 0x45) (eqb (getD t 1 0) colon) m) in (
+    let e-is = eqb→eq (letterOf t) endLetter (first (eqb (letterOf t) endLetter) (eqb (getD t 1 0) colon) m) in
+    let colon-is = eqb→eq (getD t 1 0) colon (second (eqb (letterOf t) endLetter) (eqb (getD t 1 0) colon) m) in (
       accepted-eq (q2 .1),
       first-four t four
-          ∙ ap₂ (λ (x y : ℕ). x ∷ (y ∷ (getD t 2 0 ∷ (getD t 3 0 ∷ [])))) e-is colon-is
-          ∙ ap (λ (xs : List ℕ). 0x45 ∷ (colon ∷ xs)) (sym (twoBytes-number (getD t 2 0) (getD t 3 0) (bytes 3)) ∙ ap twoBytes number-is),
+          ∙ ap₂ (λ (x y : ℕ). x ∷ y ∷ getD t 2 0 ∷ getD t 3 0 ∷ []) e-is colon-is
+          ∙ ap (λ (xs : List ℕ). endLetter ∷ colon ∷ xs) (sym (twoBytes-number (getD t 2 0) (getD t 3 0) (bytes 3)) ∙ ap twoBytes number-is),
     )
 
 -- an accepted program: its bytes, and that its rules are within the form's limits
@@ -360,7 +374,8 @@ pub record ProgramRead (F : Limits) (n : ℕ) (t : List ℕ) (p : Program) : Typ
   pub keeps : T (eachOf (keepsRule F) p)
   pub room : n + length p ≤ F .rules
 
-program-cons : (F : Limits) (n : ℕ) (t : List ℕ) (r : Rule) (size : ℕ) (p : Program) → RuleRead F n t r size → ProgramRead F (n + 1) (drop size t) p → ProgramRead F n t (r ∷ p)
+program-cons : (F : Limits) (n : ℕ) (t : List ℕ) (r : Rule) (size : ℕ) (p : Program) → RuleRead F n t r size
+    → ProgramRead F (n + 1) (drop size t) p → ProgramRead F n t (r ∷ p)
 unfolding encodedRules
 program-cons F n t r size p here rest =
     record {
@@ -388,10 +403,12 @@ module _ (F : Limits) where
   pub rules-sound : (f : ℕ) (t : List ℕ) (at n : ℕ) (p : Program) → Bytes t → n ≤ F .rules → rulesFrom F f t at n ≡ accepted p → ProgramRead F n t p
   unfolding rulesFrom encodedRules
   rules-sound zero t at n p bytes room q = absurd (refused-accepted q)
-  rules-sound (suc f) t at n p bytes room q = go (recordAt F n t) refl q (λ size k w z. rules-sound f (drop size t) (at + size) (n + 1) w (bytes-drop size t bytes) k z)
+  rules-sound (suc f) t at n p bytes room q =
+      go (recordAt F n t) refl q (λ size k w z. rules-sound f (drop size t) (at + size) (n + 1) w (bytes-drop size t bytes) k z)
     where
       Rest : Type 0
-      Rest = (size : ℕ) → n + 1 ≤ F .rules → (w : Program) → rulesFrom F f (drop size t) (at + size) (n + 1) ≡ accepted w → ProgramRead F (n + 1) (drop size t) w
+      Rest =
+          (size : ℕ) → n + 1 ≤ F .rules → (w : Program) → rulesFrom F f (drop size t) (at + size) (n + 1) ≡ accepted w → ProgramRead F (n + 1) (drop size t) w
 
       afterEntry : Entry → Result Program
       afterEntry e = elim e [ rule r size ↦ andThen (rulesFrom F f (drop size t) (at + size) (n + 1)) (λ w. accepted (r ∷ w)) | end ↦ accepted [] ]

@@ -21,10 +21,11 @@ use Rattle.literal.specs.Order.{key, keyOf}
 use Rattle.literal.specs.Code.{keyAt}
 use Rattle.semantics.specs.Extension.{sourceKind}
 use Rattle.semantics.proofs.Laws.Tests.{first, second}
+use Rattle.record.specs.Header.{letterOf}
 use Rattle.record.specs.Layout.{encodedLiterals}
 use Rattle.record.proofs.Laws.Layout.{encoded-literals-append, length-encoded-literals}
-use Rattle.litset.proofs.Laws.Above.{above}
-use Rattle.litset.proofs.Laws.Keys.{key-here, keys-behind}
+use Rattle.set.proofs.Laws.Above.{above}
+use Rattle.set.proofs.Laws.Keys.{key-here, keys-behind}
 use Rattle.restrict.specs.Restrict.{restrictionList}
 use Rattle.restrict.specs.Code.{sourceFront}
 use Rattle.restrict.proofs.Laws.Restriction.{restriction-kept, restriction-dropped}
@@ -41,15 +42,15 @@ source-kind (Derived t (Negative a)) = refl
 source-kind (RuleDefeated n) = refl
 
 -- five bytes whose key is above those of kinds 0 to 3 have another kind
-high-kind : (bs : List ℕ) → Bytes bs → keyOf 4 0 0 ≤ keyAt bs → 3 < getD bs 0 0
+high-kind : (bs : List ℕ) → Bytes bs → keyOf 4 0 0 ≤ keyAt bs → 3 < letterOf bs
 unfolding keyAt
 high-kind bs h k = omega (arith, h 1, h 2, h 3, h 4)
 
 module _ (s : List ℕ) (bytes : Bytes s) where
   -- a literal's kind is its first byte
-  kind-here : (at : ℕ) (l : Literal) (ls : List Literal) → drop at s ≡ encodedLiterals (l ∷ ls) → getD (drop at s) 0 0 ≡ kind l
+  kind-here : (at : ℕ) (l : Literal) (ls : List Literal) → drop at s ≡ encodedLiterals (l ∷ ls) → letterOf (drop at s) ≡ kind l
   unfolding encodedLiterals encoded
-  kind-here at l ls e = ap (λ (bs : List ℕ). getD bs 0 0) e
+  kind-here at l ls e = ap (λ (bs : List ℕ). letterOf bs) e
 
   byte-here : (at : ℕ) (l : Literal) (ls : List Literal) → drop at s ≡ encodedLiterals (l ∷ ls) → getD s at 0 ≡ kind l
   byte-here at l ls e = sym (getD-drop at s 0 0 ∙ ap (λ (i : ℕ). getD s i 0) (add-zero at)) ∙ kind-here at l ls e
@@ -70,7 +71,7 @@ module _ (s : List ℕ) (bytes : Bytes s) where
       higher : k < key l
       higher = ltb→lt k (key l) (first (ltb k (key l)) (above (key l) ls) t)
 
-      high : 3 < getD (drop at s) 0 0
+      high : 3 < letterOf (drop at s)
       high = high-kind (drop at s) (bytes-drop at s bytes) (omega (arith, key-here s at l ls e, higher))
 
   -- of ascending literals those that are kept are the first ones, as many as are counted
@@ -81,7 +82,8 @@ module _ (s : List ℕ) (bytes : Bytes s) where
   restriction-front (l ∷ ls) at k t e =
       go (leb (kind l) 3) refl (restriction-front ls (at + 5) (key l) (second (ltb k (key l)) (above (key l) ls) t) (keys-behind s at l ls e))
     where
-      go : (b : Bool) → leb (kind l) 3 ≡ b → ((rest : List Literal) × (ls ≡ restrictionList ls ++ rest) × (sourceFront s (at + 5) (length ls) ≡ length (restrictionList ls)))
+      go : (b : Bool) → leb (kind l) 3 ≡ b → ((rest : List Literal) × (ls ≡ restrictionList ls ++ rest)
+          × (sourceFront s (at + 5) (length ls) ≡ length (restrictionList ls)))
           → (rest : List Literal) × (l ∷ ls ≡ restrictionList (l ∷ ls) ++ rest) × (sourceFront s at (length (l ∷ ls)) ≡ length (restrictionList (l ∷ ls)))
       go true q w =
           let kept = restriction-kept l ls (source-kind l ∙ q) in (
@@ -90,7 +92,8 @@ module _ (s : List ℕ) (bytes : Bytes s) where
             rw (byte-here at l ls e, q) (omega (arith, w .2, ap length kept)),
           )
       go false q w =
-          let none = marks-behind ls (at + 5) (key l) (high-key l (leb-false (kind l) 3 q)) (second (ltb k (key l)) (above (key l) ls) t) (keys-behind s at l ls e) in
+          let none = marks-behind ls (at + 5) (key l) (high-key l (leb-false (kind l) 3 q))
+          (second (ltb k (key l)) (above (key l) ls) t) (keys-behind s at l ls e) in
           let gone = restriction-dropped l ls (source-kind l ∙ q) ∙ none in (
             l ∷ ls,
             ap (λ (ms : List Literal). ms ++ (l ∷ ls)) (sym gone),

@@ -16,23 +16,23 @@ use Rattle.record.specs.declared.Reason.the-variants.{OutputShort}
 use Rattle.record.specs.declared.Refusal.{Refusal}
 use Rattle.record.specs.declared.Written.{Written}
 use Rattle.record.specs.declared.Written.the-variants.{Length, Refused}
+use Rattle.record.specs.declared.Reading.{Reading}
 use Rattle.record.specs.Refusal.{refusal}
 use Rattle.record.specs.Result.{Result, accepted, refused, andThen}
 use Rattle.record.specs.Meets.{Meets}
 use Rattle.record.specs.Layout.{encodedLiterals}
 use Rattle.record.proofs.Laws.Result.{accepted-and-then, refused-and-then}
 use Rattle.record.proofs.Laws.Delivered.{meets-refused, meets-short, meets-written}
-use Rattle.record.specs.declared.Reading.{Reading}
-use Rattle.litset.specs.Layout.{encodedSet}
-use Rattle.litset.specs.Reading.{parsedSet}
-use Rattle.litset.specs.Code.{setReading, setHeader}
-use Rattle.litset.proofs.Laws.Above.{ascending-above}
-use Rattle.litset.proofs.Laws.Reading.{keeps-set-ascending, keeps-set-taken, keeps-set-count, parsed-set-sound, length-encoded-set, length-parsed-set}
-use Rattle.litset.proofs.Laws.Keys.{literals-lie}
+use Rattle.set.specs.Layout.{encodedSet}
+use Rattle.set.specs.Reading.{parsedSet}
+use Rattle.set.specs.Code.{setReading, setHeader}
+use Rattle.set.proofs.Laws.Above.{ascending-above}
+use Rattle.set.proofs.Laws.Reading.{keeps-set-ascending, keeps-set-taken, keeps-set-count, parsed-set-sound, length-encoded-set, length-parsed-set}
+use Rattle.set.proofs.Laws.Keys.{literals-lie}
+use Rattle.set.proofs.Laws.Answered.{set-refused, set-literals}
+use Rattle.set.proofs.Laws.Header.{set-written}
 use Rattle.restrict.specs.Restrict.{restrictionList, restrictionBytes, restricted}
 use Rattle.restrict.specs.Code.{sourceFront}
-use Rattle.litset.proofs.Laws.Answered.{set-refused, set-literals}
-use Rattle.litset.proofs.Laws.Header.{set-written}
 use Rattle.restrict.proofs.Laws.Prefix.{restriction-front, restriction-bytes}
 
 -- a slice that holds n literals, of which the first m are kept

@@ -51,7 +51,8 @@ length-restriction (l ∷ ls) = go (sourceKind l) (length-restriction ls)
 restriction-source : (ls : List Literal) → T (eachOf sourceKind ls) → restrictionList ls ≡ ls
 unfolding restrictionList
 restriction-source [] t = refl
-restriction-source (l ∷ ls) t = go (sourceKind l) (first (sourceKind l) (eachOf sourceKind ls) t) (restriction-source ls (second (sourceKind l) (eachOf sourceKind ls) t))
+restriction-source (l ∷ ls) t =
+    go (sourceKind l) (first (sourceKind l) (eachOf sourceKind ls) t) (restriction-source ls (second (sourceKind l) (eachOf sourceKind ls) t))
   where
     go : (b : Bool) → T b → restrictionList ls ≡ ls → cond b (l ∷ restrictionList ls) (restrictionList ls) ≡ l ∷ ls
     go true u e = ap (λ (ks : List Literal). l ∷ ks) e
@@ -62,7 +63,8 @@ restriction-marks : (ls : List Literal) → T (eachOf (λ l. not (sourceKind l))
 unfolding restrictionList
 restriction-marks [] t = refl
 restriction-marks (l ∷ ls) t =
-    go (sourceKind l) (first (not (sourceKind l)) (eachOf (λ m. not (sourceKind m)) ls) t) (restriction-marks ls (second (not (sourceKind l)) (eachOf (λ m. not (sourceKind m)) ls) t))
+    go (sourceKind l) (first (not (sourceKind l)) (eachOf (λ m. not (sourceKind m)) ls) t)
+    (restriction-marks ls (second (not (sourceKind l)) (eachOf (λ m. not (sourceKind m)) ls) t))
   where
     go : (b : Bool) → T (not b) → restrictionList ls ≡ [] → cond b (l ∷ restrictionList ls) (restrictionList ls) ≡ []
     go true u e = absurd u

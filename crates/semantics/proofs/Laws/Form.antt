@@ -1,5 +1,5 @@
 -- Laws of forms: what a program within a form's limits is made of, and which literals extensions of its sets hold.
--- In order: the parts of a rule within the limits; a form without marks; where a form covers another.
+-- In order: a program within the limits, and the parts of a rule within them; a form without marks; where a form covers another.
 -- Assumes nothing.
 use Prim.Native.Nat.{ℕ, _≤_}
 use native.Mathlib.Omega.{arith}
@@ -12,15 +12,16 @@ use Rattle.literal.specs.declared.SignedAtom.{SignedAtom}
 use Rattle.literal.specs.declared.SignedAtom.the-variants.{Positive, Negative}
 use Rattle.literal.specs.declared.Literal.{Literal}
 use Rattle.literal.specs.declared.Literal.the-variants.{Signed, Defeated, Derived, RuleDefeated}
-use Rattle.literal.specs.Literal.{mostKind, atomNumber, kind, inRange, ranged, takes}
 use Rattle.literal.specs.declared.Tag.{Tag}
+use Rattle.literal.specs.Literal.{mostKind, atomNumber, kind, inRange, ranged, takes}
 use Rattle.literal.proofs.Laws.Literal.{kind-most, takes-kind, takes-ranged, takes-both}
 use Rattle.semantics.specs.Set.{LiteralSet, eachOf}
-use Rattle.semantics.specs.Rule.{Rule, defeasible, Program, head, positive, naf}
+use Rattle.semantics.specs.Rule.{Rule, strict, defeasible, Program, head, positive, naf}
 use Rattle.semantics.specs.Translation.{ruleDefeated}
 use Rattle.semantics.specs.Extension.{extension, sourceKind}
 use Rattle.semantics.specs.Form.{SetOf, keepsCounts, keepsLiterals, keepsTag, keepsRule, keepsRules, sourceRule, SourceSet}
 use Rattle.semantics.proofs.Laws.Tests.{both, first, second, all-mem, all-intro, along}
+use Rattle.semantics.proofs.Laws.Wider.{Wider, pair-wider, takes-wider}
 use Rattle.semantics.proofs.Laws.Position.{at-mem, at-below, at-from}
 use Rattle.semantics.proofs.Laws.Extension.{extension-agree, agree-signed, agree-defeated, extension-derived, extension-defeated}
 
@@ -33,35 +34,71 @@ pub keeps-each : (F : Limits) (p : Program) → T (keepsRules F p) → T (eachOf
 unfolding keepsRules
 keeps-each F p k = second (leb (length p) (F .rules)) (eachOf (keepsRule F) p) k
 
+pub keeps-rules : (F : Limits) (p : Program) → length p ≤ F .rules → T (eachOf (keepsRule F) p) → T (keepsRules F p)
+unfolding keepsRules
+keeps-rules F p count each = both (leb (length p) (F .rules)) (eachOf (keepsRule F) p) (le→leb (length p) (F .rules) count) each
+
+-- a defeasible rule within the limits is of a form that has them, with a tag of the form's and an option
+pub record KeptTag (F : Limits) (t : Tag) (h : List SignedAtom) : Type 0 where
+  pub form : T (F .defeasible)
+  pub range : T (inRange (F .tags) (t .0))
+  pub some : 1 ≤ length h
+
+abbrev pub TagKept : Limits → Rule → Type 0
+TagKept F (strict h b c) = Unit
+TagKept F (defeasible t h b c) = KeptTag F t h
+
 -- the parts of a rule within the limits
-module _ (F : Limits) (r : Rule) (k : T (keepsRule F r)) where
-  rest : T (keepsCounts F (length (head r)) (length (positive r)) (length (naf r)) && keepsLiterals F r)
-  unfolding keepsRule
-  rest = second (keepsTag F r) (keepsCounts F (length (head r)) (length (positive r)) (length (naf r)) && keepsLiterals F r) k
+pub record Kept (F : Limits) (r : Rule) : Type 0 where
+  pub tag : TagKept F r
+  pub counts : T (keepsCounts F (length (head r)) (length (positive r)) (length (naf r)))
+  pub heads : length (head r) ≤ F .heads
+  pub positives : length (positive r) ≤ F .positives
+  pub nafs : length (naf r) ≤ F .nafs
+  pub head-taken : T (eachOf (takes F) (head r))
+  pub positive-taken : T (eachOf (takes F) (positive r))
+  pub naf-taken : T (eachOf (takes F) (naf r))
 
-  pub keeps-tag : T (keepsTag F r)
-  unfolding keepsRule
-  keeps-tag = first (keepsTag F r) (keepsCounts F (length (head r)) (length (positive r)) (length (naf r)) && keepsLiterals F r) k
+tag-kept : (F : Limits) (r : Rule) → T (keepsTag F r) → TagKept F r
+unfolding keepsTag
+tag-kept F (strict h b c) k = tt
+tag-kept F (defeasible t h b c) k =
+    let ranges = second (F .defeasible) _ k in
+    record {
+      form = first (F .defeasible) _ k;
+      range = first (inRange (F .tags) (t .0)) _ ranges;
+      some = leb→le 1 (length h) (second (inRange (F .tags) (t .0)) _ ranges);
+    }
 
-  pub keeps-counts : T (keepsCounts F (length (head r)) (length (positive r)) (length (naf r)))
-  keeps-counts = first (keepsCounts F (length (head r)) (length (positive r)) (length (naf r))) (keepsLiterals F r) rest
+pub kept : (F : Limits) (r : Rule) → T (keepsRule F r) → Kept F r
+unfolding keepsRule keepsCounts keepsLiterals
+kept F r k =
+    let rest = second (keepsTag F r) _ k in
+    let count = keepsCounts F (length (head r)) (length (positive r)) (length (naf r)) in
+    let counts = first count _ rest in
+    let bodies = second (leb (length (head r)) (F .heads)) _ counts in
+    let taken = second count _ rest in
+    let behind = second (eachOf (takes F) (head r)) _ taken in
+    record {
+      tag = tag-kept F r (first (keepsTag F r) _ k);
+      counts = counts;
+      heads = leb→le (length (head r)) (F .heads) (first (leb (length (head r)) (F .heads)) _ counts);
+      positives = leb→le (length (positive r)) (F .positives) (first (leb (length (positive r)) (F .positives)) _ bodies);
+      nafs = leb→le (length (naf r)) (F .nafs) (second (leb (length (positive r)) (F .positives)) _ bodies);
+      head-taken = first (eachOf (takes F) (head r)) _ taken;
+      positive-taken = first (eachOf (takes F) (positive r)) _ behind;
+      naf-taken = second (eachOf (takes F) (positive r)) _ behind;
+    }
 
-  literals : T (eachOf (takes F) (head r) && (eachOf (takes F) (positive r) && eachOf (takes F) (naf r)))
-  unfolding keepsLiterals
-  literals = second (keepsCounts F (length (head r)) (length (positive r)) (length (naf r))) (keepsLiterals F r) rest
-
-  pub keeps-head : T (eachOf (takes F) (head r))
-  keeps-head = first (eachOf (takes F) (head r)) (eachOf (takes F) (positive r) && eachOf (takes F) (naf r)) literals
-
-  pub keeps-positive : T (eachOf (takes F) (positive r))
-  keeps-positive =
-      first (eachOf (takes F) (positive r)) (eachOf (takes F) (naf r))
-      (second (eachOf (takes F) (head r)) (eachOf (takes F) (positive r) && eachOf (takes F) (naf r)) literals)
-
-  pub keeps-naf : T (eachOf (takes F) (naf r))
-  keeps-naf =
-      second (eachOf (takes F) (positive r)) (eachOf (takes F) (naf r))
-      (second (eachOf (takes F) (head r)) (eachOf (takes F) (positive r) && eachOf (takes F) (naf r)) literals)
+-- a strict rule is within the limits by its counts and its literals
+pub strict-keeps : (F : Limits) (h b c : List Literal) → length h ≤ F .heads → length b ≤ F .positives → length c ≤ F .nafs
+    → T (eachOf (takes F) h) → T (eachOf (takes F) b) → T (eachOf (takes F) c) → T (keepsRule F (strict h b c))
+unfolding keepsRule keepsTag keepsCounts keepsLiterals head positive naf
+strict-keeps F h b c lh lb lc th tb tc =
+    both (leb (length h) (F .heads) && (leb (length b) (F .positives) && leb (length c) (F .nafs))) _
+    (both (leb (length h) (F .heads)) _ (le→leb (length h) (F .heads) lh)
+    (both (leb (length b) (F .positives)) _ (le→leb (length b) (F .positives) lb) (le→leb (length c) (F .nafs) lc)))
+    (both (eachOf (takes F) h) _ th (both (eachOf (takes F) b) (eachOf (takes F) c) tb tc))
 
 -- a form whose largest kind is 3 takes literals of source kinds alone
 pub takes-source : (F : Limits) → mostKind (F .kinds) ≤ 3 → (l : Literal) → T (takes F l) → T (sourceKind l)
@@ -81,60 +118,35 @@ source-rules F s p k = all-intro sourceRule p (λ r m. go r (all-mem (keepsRule 
 
     go : (r : Rule) → T (keepsRule F r) → T (sourceRule r)
     go r t =
-        both (eachOf sourceKind (head r)) (eachOf sourceKind (positive r) && eachOf sourceKind (naf r)) (over (head r) (keeps-head F r t))
-        (both (eachOf sourceKind (positive r)) (eachOf sourceKind (naf r)) (over (positive r) (keeps-positive F r t)) (over (naf r) (keeps-naf F r t)))
+        let w = kept F r t in
+        both (eachOf sourceKind (head r)) (eachOf sourceKind (positive r) && eachOf sourceKind (naf r)) (over (head r) (w .head-taken))
+        (both (eachOf sourceKind (positive r)) (eachOf sourceKind (naf r)) (over (positive r) (w .positive-taken)) (over (naf r) (w .naf-taken)))
 
--- form G takes every literal of F, the derivation marks of F's defeat marks, and the numbers of F's rules
+-- form G takes what F takes, the marks of F's tags and atoms, and the numbers of F's rules
 pub record Covers (F G : Limits) : Type 0 where
+  pub wider : Wider F G
   pub kinds : 6 ≤ mostKind (G .kinds)
-  pub atoms : F .atoms ≤ G .atoms
-  pub tags : F .tags ≤ G .tags
   pub numbers : F .rules ≤ G .numbers
-
--- a wider range holds what a range holds
-pub in-range-mono : (m k n : ℕ) → m ≤ k → T (inRange m n) → T (inRange k n)
-in-range-mono m k n h y =
-    both (leb 1 n) (leb n k) (first (leb 1 n) (leb n m) y)
-    (le→leb n k (omega (arith, leb→le n m (second (leb 1 n) (leb n m) y))))
 
 module _ (F G : Limits) (covers : Covers F G) where
   -- a literal in G's ranges
   covered : (l : Literal) → T (ranged G l) → T (takes G l)
   covered l y = takes-both G l (omega (arith, kind-most l, covers .kinds)) y
 
-  -- a tag with an atom, in F and in G
-  marks : (t : Tag) (a : SignedAtom) → T (inRange (F .tags) (t .0)) → T (inRange (F .atoms) (atomNumber a))
-      → T (inRange (G .tags) (t .0) && inRange (G .atoms) (atomNumber a))
-  marks t a y z =
-      both (inRange (G .tags) (t .0)) (inRange (G .atoms) (atomNumber a))
-      (in-range-mono (F .tags) (G .tags) (t .0) (covers .tags) y)
-      (in-range-mono (F .atoms) (G .atoms) (atomNumber a) (covers .atoms) z)
-
-  signed : (a : SignedAtom) → T (takes F (Signed a)) → T (inRange (F .atoms) (atomNumber a))
+  -- a tag of F's with an atom of F's
+  marks : (t : Tag) (a : SignedAtom) → T (inRange (F .tags) (t .0)) → T (takes F (Signed a)) → T (inRange (G .tags) (t .0) && inRange (G .atoms) (atomNumber a))
   unfolding ranged
-  signed a y = takes-ranged F (Signed a) y
-
-  pub covers-signed : (a : SignedAtom) → T (takes F (Signed a)) → T (takes G (Signed a))
-  unfolding ranged
-  covers-signed a y = covered (Signed a) (in-range-mono (F .atoms) (G .atoms) (atomNumber a) (covers .atoms) (signed a y))
-
-  pub covers-defeated : (t : Tag) (a : SignedAtom) → T (takes F (Defeated t a)) → T (takes G (Defeated t a))
-  unfolding ranged
-  covers-defeated t a y =
-      let m = takes-ranged F (Defeated t a) y in
-      covered (Defeated t a)
-      (marks t a (first (inRange (F .tags) (t .0)) (inRange (F .atoms) (atomNumber a)) m)
-      (second (inRange (F .tags) (t .0)) (inRange (F .atoms) (atomNumber a)) m))
+  marks t a y z = pair-wider F G (covers .wider) t a y (takes-ranged F (Signed a) z)
 
   -- the mark of an option of a rule within F's limits
   pub covers-derived : (t : Tag) (a : SignedAtom) → T (inRange (F .tags) (t .0)) → T (takes F (Signed a)) → T (takes G (Derived t a))
   unfolding ranged
-  covers-derived t a y z = covered (Derived t a) (marks t a y (signed a z))
+  covers-derived t a y z = covered (Derived t a) (marks t a y z)
 
   -- the defeat mark of such an option
   pub covers-mark : (t : Tag) (a : SignedAtom) → T (inRange (F .tags) (t .0)) → T (takes F (Signed a)) → T (takes G (Defeated t a))
   unfolding ranged
-  covers-mark t a y z = covered (Defeated t a) (marks t a y (signed a z))
+  covers-mark t a y z = covered (Defeated t a) (marks t a y z)
 
   -- a number of a rule of a program within F's limits
   pub covers-number : (n : ℕ) → 1 ≤ n → n ≤ F .rules → T (takes G (ruleDefeated n))
@@ -145,22 +157,16 @@ module _ (F G : Limits) (covers : Covers F G) where
 
   -- the extension of a set of F's literals is a set of G's
   pub extension-within : (p : Program) → T (keepsRules F p) → (s : LiteralSet) → SourceSet s → SetOf F s → SetOf G (extension p s)
-  unfolding keepsTag head
   extension-within p k s source within = go
     where
-      tag-of : (t : Tag) (h : List SignedAtom) (b c : List Literal) → T (keepsRule F (defeasible t h b c)) → T (inRange (F .tags) (t .0))
-      tag-of t h b c y =
-          first (inRange (F .tags) (t .0)) (leb 1 (length h))
-          (second (F .defeasible) (inRange (F .tags) (t .0) && leb 1 (length h)) (keeps-tag F (defeasible t h b c) y))
-
       go : (l : Literal) → T (extension p s l) → T (takes G l)
-      go (Signed a) y = covers-signed a (within (Signed a) (along (agree-signed (extension-agree p s) a) y))
-      go (Defeated t a) y = covers-defeated t a (within (Defeated t a) (along (agree-defeated (extension-agree p s) t a) y))
+      go (Signed a) y = takes-wider F G (covers .wider) (Signed a) (within (Signed a) (along (agree-signed (extension-agree p s) a) y))
+      go (Defeated t a) y = takes-wider F G (covers .wider) (Defeated t a) (within (Defeated t a) (along (agree-defeated (extension-agree p s) t a) y))
       go (Derived t a) y =
           let d = extension-derived p s source t a y in
           let o = d .offer in
           let q = all-mem (keepsRule F) (keeps-each F p k) (at-mem (o .at)) in
-          covers-derived t a (tag-of t (o .options) (o .body) (o .nafs) q) (within (Signed a) (d .holds))
+          covers-derived t a (kept F (defeasible t (o .options) (o .body) (o .nafs)) q .tag .range) (within (Signed a) (d .holds))
       go (RuleDefeated n) y =
           let w = extension-defeated p s source n y in
           covers-number (n .0) (at-from (w .1)) (omega (arith, at-below (w .1), keeps-count F p k))

@@ -3,20 +3,19 @@
 use Prim.Native.Nat.{ℕ, _+_, _*_, _≤_}
 use native.Mathlib.Omega.{arith}
 use mathlib.Core.Path.{_≡_, refl, sym, _∙_, ap, ap₂}
-use mathlib.Core.Bool.{_&&_}
-use mathlib.Core.List.{List, [], _∷_, _++_, map, append-assoc}
-use lib.Dec.{T, leb, leb→le}
+use mathlib.Core.List.{List, [], _∷_, _++_, append-assoc}
+use lib.Dec.{T}
 use lib.ListN.{length, length-append, length-map}
 use Rattle.literal.specs.declared.Limits.{Limits}
 use Rattle.literal.specs.declared.Tag.{Tag}
 use Rattle.literal.specs.declared.SignedAtom.{SignedAtom}
 use Rattle.literal.specs.declared.Literal.the-variants.{Signed, Defeated, Derived}
 use Rattle.semantics.specs.Set.{eachOf}
-use Rattle.semantics.specs.Rule.{Rule, strict, defeasible, Program, head, positive, naf}
+use Rattle.semantics.specs.Rule.{Rule, strict, defeasible, Program, head}
 use Rattle.semantics.specs.Translation.{ruleDefeated, choice, allDefeated, holdsIfDerived, derivedIfHolds, neverBoth, option, options, translatedRule, translationFrom, translation, recordLength, translatedLength, translatedLengths, translationLength, translatedCount, translatedCounts}
-use Rattle.semantics.specs.Form.{keepsCounts, keepsRule, keepsRules}
+use Rattle.semantics.specs.Form.{keepsRule, keepsRules}
 use Rattle.semantics.proofs.Laws.Tests.{first, second}
-use Rattle.semantics.proofs.Laws.Form.{keeps-counts, keeps-each}
+use Rattle.semantics.proofs.Laws.Form.{keeps-each, kept}
 
 -- the bytes of a program's records, and of the program: an end record follows
 unfoldable pub recordsLength : Program → ℕ
@@ -31,7 +30,8 @@ pub translation-append : (n : ℕ) (p q : Program) → translationFrom n (p ++ q
 unfolding translationFrom
 translation-append n [] q = ap (λ (m : ℕ). translationFrom m q) (omega arith)
 translation-append n (r ∷ p) q =
-    ap (λ (rs : Program). translatedRule n r ++ rs) (translation-append (n + 1) p q ∙ ap (λ (m : ℕ). translationFrom (n + 1) p ++ translationFrom m q) (omega arith))
+    ap (λ (rs : Program). translatedRule n r ++ rs)
+    (translation-append (n + 1) p q ∙ ap (λ (m : ℕ). translationFrom (n + 1) p ++ translationFrom m q) (omega arith))
     ∙ sym (append-assoc (translatedRule n r) (translationFrom (n + 1) p) (translationFrom (n + length (r ∷ p)) q))
 
 pub records-length-append : (p q : Program) → recordsLength (p ++ q) ≡ recordsLength p + recordsLength q
@@ -91,18 +91,16 @@ count-translation p = from-count 1 p
 
 -- a rule with at most 67 heads becomes at most thirteen times as long
 rule-thirteenfold : (F : Limits) → F .heads ≤ 67 → (r : Rule) → T (keepsRule F r) → translatedLength r ≤ 13 * recordLength r
-unfolding translatedLength recordLength keepsCounts head
+unfolding translatedLength recordLength head
 rule-thirteenfold F most (strict h b c) k = omega arith
 rule-thirteenfold F most (defeasible t h b c) k =
-    let counts = keeps-counts F (defeasible t h b c) k in
-    let heads = leb→le (length (map Signed h)) (F .heads) (first (leb (length (map Signed h)) (F .heads)) (leb (length (positive (defeasible t h b c))) (F .positives) && leb (length (naf (defeasible t h b c))) (F .nafs)) counts) in
-    omega (arith, heads, length-map h Signed)
+    omega (arith, kept F (defeasible t h b c) k .heads, length-map h Signed)
 
 rules-thirteenfold : (F : Limits) → F .heads ≤ 67 → (p : Program) → T (eachOf (keepsRule F) p) → translatedLengths p ≤ 13 * recordsLength p
 unfolding translatedLengths recordsLength
 rules-thirteenfold F most [] k = omega arith
 rules-thirteenfold F most (r ∷ p) k =
-    omega (arith, rule-thirteenfold F most r (first (keepsRule F r) (eachOf (keepsRule F) p) k), rules-thirteenfold F most p (second (keepsRule F r) (eachOf (keepsRule F) p) k))
+    omega (arith, rule-thirteenfold F most r (first (keepsRule F r) _ k), rules-thirteenfold F most p (second (keepsRule F r) _ k))
 
 -- a translation is at most thirteen times as long as its source
 pub thirteenfold : (F : Limits) → F .heads ≤ 67 → (p : Program) → T (keepsRules F p) → translationLength p ≤ 13 * programLength p

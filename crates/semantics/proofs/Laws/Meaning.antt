@@ -74,7 +74,8 @@ unfolding undefeated
 undefeated-none t [] s d = refl
 undefeated-none t (a ∷ h) s d = go (s (Defeated t a)) (undefeated-none t h s) d
   where
-    go : (x : Bool) → (T (eachOf (λ a. s (Defeated t a)) h) → undefeated t h s ≡ []) → T (x && eachOf (λ a. s (Defeated t a)) h) → cond x (undefeated t h s) (Signed a ∷ undefeated t h s) ≡ []
+    go : (x : Bool) → (T (eachOf (λ a. s (Defeated t a)) h) → undefeated t h s ≡ []) → T (x && eachOf (λ a. s (Defeated t a)) h)
+        → cond x (undefeated t h s) (Signed a ∷ undefeated t h s) ≡ []
     go true ih e = ih e
     go false ih e = absurd e
 
@@ -83,7 +84,8 @@ unfolding undefeated
 none-undefeated t [] s e = tt
 none-undefeated t (a ∷ h) s e = go (s (Defeated t a)) (none-undefeated t h s) e
   where
-    go : (x : Bool) → (undefeated t h s ≡ [] → T (eachOf (λ a. s (Defeated t a)) h)) → cond x (undefeated t h s) (Signed a ∷ undefeated t h s) ≡ [] → T (x && eachOf (λ a. s (Defeated t a)) h)
+    go : (x : Bool) → (undefeated t h s ≡ [] → T (eachOf (λ a. s (Defeated t a)) h))
+        → cond x (undefeated t h s) (Signed a ∷ undefeated t h s) ≡ [] → T (x && eachOf (λ a. s (Defeated t a)) h)
     go true ih e = ih e
     go false ih e = absurd (nil≢cons (sym e))
 
@@ -96,15 +98,18 @@ undefeated-chosen t (a ∷ h) s u e = go (s (Defeated t a)) refl (undefeated-cho
     later : Chosen t h s u → Chosen t (a ∷ h) s u
     later w = (w .0, List·Memᴰ·tail (w .1), w .2, w .3)
 
-    here : s (Defeated t a) ≡ false → (T (someOf u (undefeated t h s)) → Chosen t h s u) → T (u (Signed a)) ⊎ T (someOf u (undefeated t h s)) → Chosen t (a ∷ h) s u
+    here : s (Defeated t a) ≡ false → (T (someOf u (undefeated t h s)) → Chosen t h s u)
+        → T (u (Signed a)) ⊎ T (someOf u (undefeated t h s)) → Chosen t (a ∷ h) s u
     here e ih (inl y) = (a, List·Memᴰ·head refl, along e, y)
     here e ih (inr y) = later (ih y)
 
-    go : (x : Bool) → s (Defeated t a) ≡ x → (T (someOf u (undefeated t h s)) → Chosen t h s u) → T (someOf u (cond x (undefeated t h s) (Signed a ∷ undefeated t h s))) → Chosen t (a ∷ h) s u
+    go : (x : Bool) → s (Defeated t a) ≡ x → (T (someOf u (undefeated t h s)) → Chosen t h s u)
+        → T (someOf u (cond x (undefeated t h s) (Signed a ∷ undefeated t h s))) → Chosen t (a ∷ h) s u
     go true e ih y = later (ih y)
     go false e ih y = here e ih (either (u (Signed a)) (someOf u (undefeated t h s)) y)
 
-pub undefeated-mem : (t : Tag) {h : List SignedAtom} (s : LiteralSet) {a : SignedAtom} → List·Memᴰ a h → (T (s (Defeated t a)) → ⊥) → List·Memᴰ (Signed a) (undefeated t h s)
+pub undefeated-mem : (t : Tag) {h : List SignedAtom} (s : LiteralSet) {a : SignedAtom} → List·Memᴰ a h → (T (s (Defeated t a)) → ⊥)
+    → List·Memᴰ (Signed a) (undefeated t h s)
 unfolding undefeated
 undefeated-mem t s {a} (List·Memᴰ·head {x} {xs} e) n = go (s (Defeated t x)) refl
   where

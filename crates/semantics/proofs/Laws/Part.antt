@@ -81,13 +81,15 @@ first-some [] test s e = go (test []) refl e
     go : (b : Bool) → test [] ≡ b → cond {A = Option (List Literal)} b (some []) none ≡ some s → FirstPart [] test s
     go true q e = subst (FirstPart [] test) (Option·some-injective [] s e) (only q)
     go false q e = absurd (Option·none-ne-some s e)
-first-some (l ∷ ls) test s e = go (firstSubset ls test) refl (firstSubset ls (λ u. test (l ∷ u))) refl (first-some ls test) (first-some ls (λ u. test (l ∷ u))) e
+first-some (l ∷ ls) test s e =
+    go (firstSubset ls test) refl (firstSubset ls (λ u. test (l ∷ u))) refl (first-some ls test) (first-some ls (λ u. test (l ∷ u))) e
   where
     later : List Literal → Bool
     later u = test (l ∷ u)
 
     go : (o : Option (List Literal)) → firstSubset ls test ≡ o → (q : Option (List Literal)) → firstSubset ls later ≡ q
-        → ((u : List Literal) → firstSubset ls test ≡ some u → FirstPart ls test u) → ((u : List Literal) → firstSubset ls later ≡ some u → FirstPart ls later u)
+        → ((u : List Literal) → firstSubset ls test ≡ some u → FirstPart ls test u)
+        → ((u : List Literal) → firstSubset ls later ≡ some u → FirstPart ls later u)
         → orElse o (withLiteral l q) ≡ some s → FirstPart (l ∷ ls) test s
     go (some u) eo q eq ih ih′ e = absent-first l (ih s (eo ∙ e))
     go none eo (some u) eq ih ih′ e = subst (FirstPart (l ∷ ls) test) (Option·some-injective (l ∷ u) s e) (present-first l test eo (ih′ u eq))

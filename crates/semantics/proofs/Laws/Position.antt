@@ -15,8 +15,8 @@ use Rattle.literal.specs.declared.Literal.{Literal}
 use Rattle.semantics.specs.Set.{LiteralSet, someOf, eachOf, sameTag, sameSigned}
 use Rattle.semantics.specs.Rule.{Rule, strict, defeasible, Program}
 use Rattle.semantics.specs.Extension.{offers, defeatedRule, defeatedFrom}
-use Rattle.semantics.proofs.Laws.Tests.{both, first, second, left, right, either, any-mem, any-found, along}
 use Rattle.semantics.specs.Meaning.{remainder, quotient, satisfied, models}
+use Rattle.semantics.proofs.Laws.Tests.{both, first, second, left, right, either, any-mem, any-found, along}
 use Rattle.semantics.proofs.Laws.Meaning.{models-quotient, Kept, kept-iff}
 use Rattle.semantics.proofs.Laws.Set.{same-tag-eq, same-tag-refl, same-signed-eq, same-signed-refl}
 

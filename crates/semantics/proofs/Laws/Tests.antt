@@ -1,5 +1,6 @@
 -- Tests as facts: what `&&`, `||`, `not`, `someOf` and `eachOf` say of their parts. `T b` says that the test b passes.
--- In order: connectives; decisions; someOf and eachOf against membership; of a map and of an append; where two tests agree.
+-- In order: connectives; decisions; a property of each element; someOf and eachOf against membership; of a map and of an append; where two
+-- tests agree.
 -- Assumes nothing.
 use mathlib.Core.Path.{_≡_, refl, sym, ap, ap₂, subst}
 use mathlib.Core.Bool.{Bool, true, false, not, _&&_, _||_, or-assoc, and-assoc}
@@ -65,6 +66,33 @@ same-test false b f g = sym (is-false b g)
 pub along : {a b : Bool} → a ≡ b → T a → T b
 along e t = subst T e t
 
+-- each element of a list has a property
+abbrev pub Each : {A : Type 0} → (A → Type 0) → List A → Type 0
+Each Q [] = Unit
+Each Q (x ∷ xs) = Q x × Each Q xs
+
+module _ {A : Type 0} (Q : A → Type 0) where
+  pub each-intro : (xs : List A) → ((x : A) → List·Memᴰ x xs → Q x) → Each Q xs
+  each-intro [] h = tt
+  each-intro (x ∷ xs) h = (h x (List·Memᴰ·head refl), each-intro xs (λ y m. h y (List·Memᴰ·tail m)))
+
+  pub each-mem : {x : A} {xs : List A} → Each Q xs → List·Memᴰ x xs → Q x
+  each-mem h (List·Memᴰ·head e) = subst Q (sym e) (h .0)
+  each-mem h (List·Memᴰ·tail m) = each-mem (h .1) m
+
+  -- of an append
+  pub each-append : (xs ys : List A) → Each Q xs → Each Q ys → Each Q (xs ++ ys)
+  each-append [] ys h g = g
+  each-append (x ∷ xs) ys h g = (h .0, each-append xs ys (h .1) g)
+
+  pub each-left : (xs ys : List A) → Each Q (xs ++ ys) → Each Q xs
+  each-left [] ys h = tt
+  each-left (x ∷ xs) ys h = (h .0, each-left xs ys (h .1))
+
+  pub each-right : (xs ys : List A) → Each Q (xs ++ ys) → Each Q ys
+  each-right [] ys h = h
+  each-right (x ∷ xs) ys h = each-right xs ys (h .1)
+
 module _ {A : Type 0} where
   -- some element passes
   pub any-mem : (f : A → Bool) {x : A} {xs : List A} → List·Memᴰ x xs → T (f x) → T (someOf f xs)
@@ -87,6 +115,9 @@ module _ {A : Type 0} where
   pub all-intro : (f : A → Bool) (xs : List A) → ((x : A) → List·Memᴰ x xs → T (f x)) → T (eachOf f xs)
   all-intro f [] h = tt
   all-intro f (x ∷ xs) h = both (f x) (eachOf f xs) (h x (List·Memᴰ·head refl)) (all-intro f xs (λ y m. h y (List·Memᴰ·tail m)))
+
+  pub each-all : (f : A → Bool) (xs : List A) → Each (λ x. T (f x)) xs → T (eachOf f xs)
+  each-all f xs h = all-intro f xs (λ x m. each-mem (λ y. T (f y)) h m)
 
   pub any-append : (f : A → Bool) (xs ys : List A) → someOf f (xs ++ ys) ≡ (someOf f xs || someOf f ys)
   any-append f [] ys = refl

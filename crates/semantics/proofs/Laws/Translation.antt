@@ -66,7 +66,7 @@ one-all s l t = both (s l) true t tt
 option-kept : (t : Tag) (s u : LiteralSet) (a : SignedAtom) → T (kept s u (option t a)) → Option t s u a
 unfolding option holdsIfDerived derivedIfHolds neverBoth
 option-kept t s u a y =
-    let four = kept-cons s u (holdsIfDerived t a) (derivedIfHolds t a ∷ (neverBoth t a ∷ [])) .0 y in
+    let four = kept-cons s u (holdsIfDerived t a) (derivedIfHolds t a ∷ neverBoth t a ∷ []) .0 y in
     let five = kept-cons s u (derivedIfHolds t a) (neverBoth t a ∷ []) .0 (four .1) in
     let six = kept-cons s u (neverBoth t a) [] .0 (five .1) in
     record {
@@ -83,7 +83,7 @@ option-intro t s u a o =
     let five : Kept (derivedIfHolds t a) s u =
     λ n b. one-any u (Derived t a) (o .derived (all-one u (Signed a) b) (λ d. n (one-any s (Defeated t a) d))) in
     let four : Kept (holdsIfDerived t a) s u = λ n b. one-any u (Signed a) (o .holds (all-one u (Derived t a) b)) in
-    kept-cons s u (holdsIfDerived t a) (derivedIfHolds t a ∷ (neverBoth t a ∷ [])) .1
+    kept-cons s u (holdsIfDerived t a) (derivedIfHolds t a ∷ neverBoth t a ∷ []) .1
     (four, kept-cons s u (derivedIfHolds t a) (neverBoth t a ∷ []) .1 (five, kept-cons s u (neverBoth t a) [] .1 (six, tt)))
 
 options-kept : (t : Tag) {h : List SignedAtom} (s u : LiteralSet) {a : SignedAtom} → T (kept s u (options t h)) → List·Memᴰ a h → Option t s u a
@@ -110,13 +110,16 @@ unfolding choice
 choice-kept n t h b c s u k f g body = any-found (λ a. u (Derived t a)) h (along (any-map u (Derived t) h) (k absent body))
   where
     absent : T (someOf s (c ++ (ruleDefeated n ∷ []))) → ⊥
-    absent y = ⊎-elim f (λ z. g (any-one s (ruleDefeated n) z)) (either (someOf s c) (someOf s (ruleDefeated n ∷ [])) (along (any-append s c (ruleDefeated n ∷ [])) y))
+    absent y =
+        ⊎-elim f (λ z. g (any-one s (ruleDefeated n) z)) (either (someOf s c) (someOf s (ruleDefeated n ∷ [])) (along (any-append s c (ruleDefeated n ∷ [])) y))
 
 choice-intro : (n : ℕ) (t : Tag) (h : List SignedAtom) (b c : List Literal) (s u : LiteralSet)
-    → ((T (someOf s c) → ⊥) → (T (s (ruleDefeated n)) → ⊥) → T (eachOf u b) → (a : SignedAtom) × List·Memᴰ a h × T (u (Derived t a))) → Kept (choice n t h b c) s u
+    → ((T (someOf s c) → ⊥) → (T (s (ruleDefeated n)) → ⊥) → T (eachOf u b) → (a : SignedAtom) × List·Memᴰ a h × T (u (Derived t a)))
+    → Kept (choice n t h b c) s u
 unfolding choice
 choice-intro n t h b c s u k f body =
-    let w = k (λ y. f (within (left (someOf s c) (someOf s (ruleDefeated n ∷ [])) y))) (λ y. f (within (right (someOf s c) (someOf s (ruleDefeated n ∷ [])) (one-any s (ruleDefeated n) y)))) body in
+    let w = k (λ y. f (within (left (someOf s c) (someOf s (ruleDefeated n ∷ [])) y)))
+    (λ y. f (within (right (someOf s c) (someOf s (ruleDefeated n ∷ [])) (one-any s (ruleDefeated n) y)))) body in
     along (sym (any-map u (Derived t) h)) (any-mem (λ a. u (Derived t a)) (w .1) (w .2))
   where
     within : T (someOf s c || someOf s (ruleDefeated n ∷ [])) → T (someOf s (c ++ (ruleDefeated n ∷ [])))

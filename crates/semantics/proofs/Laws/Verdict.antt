@@ -99,7 +99,7 @@ module _ {A : Type 0} where
 
   first-found : (f : A → Bool) (k : ℕ) (xs : List A) (n : ℕ) → FirstPassing f k xs n → firstFrom f k xs ≡ some n
   first-found f k xs n w =
-      ap (firstFrom f k) (w .splits) ∙ (passes-first f k (w .before) (w .here) (w .after) (w .passed) (w .found) ∙ ap some (sym (w .position)))
+      ap (firstFrom f k) (w .splits) ∙ passes-first f k (w .before) (w .here) (w .after) (w .passed) (w .found) ∙ ap some (sym (w .position))
 
   -- the same position, described by other properties
   described : {F G P Q : A → Type 0} {k : ℕ} {xs : List A} {n : ℕ} → ((x : A) → F x → G x) → ((x : A) → P x → Q x) → FirstAt F P k xs n → FirstAt G Q k xs n
@@ -161,7 +161,8 @@ unfolding brokenFrom firstFrom unsatisfied
 broken-from k [] s = refl
 broken-from k (r ∷ p) s = go (satisfied (remainder r s) s) (broken-from (k + 1) p s)
   where
-    go : (b : Bool) → brokenFrom (k + 1) p s ≡ firstFrom (unsatisfied s) (k + 1) p → cond b (brokenFrom (k + 1) p s) (some k) ≡ cond (not b) (some k) (firstFrom (unsatisfied s) (k + 1) p)
+    go : (b : Bool) → brokenFrom (k + 1) p s ≡ firstFrom (unsatisfied s) (k + 1) p
+        → cond b (brokenFrom (k + 1) p s) (some k) ≡ cond (not b) (some k) (firstFrom (unsatisfied s) (k + 1) p)
     go true ih = ih
     go false ih = refl
 

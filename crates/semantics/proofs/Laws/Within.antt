@@ -48,7 +48,8 @@ listed p sets s = agree (isAnswerSet (finding p s)) (someOf (sameLiterals s) set
 
 -- each part of ls is an answer set of p exactly if it is listed. To unfold this test is to unfold all that it computes with
 unfoldable pub exactly : Program → List Literal → List (List Literal) → Bool
-unfolding allParts listed sameLiterals isAnswerSet agree finding firstSubset smallerModel orElse withLiteral clashFrom brokenFrom opposed opposite undefeated unlessEmpty remainder withRemainder quotient holds satisfied models
+unfolding allParts listed sameLiterals isAnswerSet agree finding firstSubset smallerModel orElse withLiteral clashFrom brokenFrom opposed
+    opposite undefeated unlessEmpty remainder withRemainder quotient holds satisfied models
 exactly p ls sets = allParts ls (listed p sets)
 
 agree-iff : (b c : Bool) → T (agree b c) → T b ↔ T c
@@ -67,7 +68,8 @@ is-answer-set-iff answerSet = (λ y. refl, λ e. tt)
 pub same-literals-iff : (s m : List Literal) → T (sameLiterals s m) ↔ (setOf s ≡ setOf m)
 unfolding sameLiterals
 same-literals-iff s m = (
-  λ t. set-ext (setOf s) (setOf m) (within s m (first (eachOf (setOf m) s) (eachOf (setOf s) m) t)) (within m s (second (eachOf (setOf m) s) (eachOf (setOf s) m) t)),
+  λ t. set-ext (setOf s) (setOf m) (within s m (first (eachOf (setOf m) s) (eachOf (setOf s) m) t))
+      (within m s (second (eachOf (setOf m) s) (eachOf (setOf s) m) t)),
   λ e. both (eachOf (setOf m) s) (eachOf (setOf s) m) (contains s m e) (contains m s (sym e)),
 )
   where

@@ -1,6 +1,10 @@
 //! The text form beside its bytes: fixed cases, errors with their places, and round trips of random programs.
 
+#[path = "../../../limits.rs"]
+mod limits;
+
 use super::*;
+use limits::{PLAIN, SOURCE};
 
 fn parsed(text: &str) -> Parsed {
     parse_program(text).unwrap_or_else(|error| panic!("{error}: {text}"))
@@ -129,6 +133,9 @@ fn mistakes_in_sets_are_told_with_line_and_column() {
     }
 }
 
+/// As many heads, positive and naf literals as a source's rule may have.
+const FULL: [usize; 3] = [SOURCE.heads, SOURCE.positives, SOURCE.nafs];
+
 /// Random numbers, the same in each run (xorshift).
 struct Random(u64);
 
@@ -138,6 +145,11 @@ impl Random {
         self.0 ^= self.0 >> 7;
         self.0 ^= self.0 << 17;
         self.0 % bound
+    }
+
+    /// From 1 to a largest number.
+    fn upto(&mut self, most: u16) -> u16 {
+        1 + self.below(most.into()) as u16
     }
 
     /// A number of two bytes, small ones more often.
@@ -176,25 +188,25 @@ impl Random {
 
     /// A literal that the library takes: an atom or its negation, a defeat mark, or, in the plain form, any mark.
     fn taken_literal(&mut self, kinds: u64) -> Literal {
-        let (atom, tag) = (1 + self.below(500) as u16, 1 + self.below(200) as u16);
+        let (atom, tag) = (self.upto(PLAIN.atoms), self.upto(PLAIN.tags));
         let signed = if self.below(2) == 0 { SignedAtom::Atom(atom) } else { SignedAtom::Negated(atom) };
         match self.below(kinds) {
             0 => Literal::Signed(signed),
             1 => Literal::Defeated(tag, signed),
             2 => Literal::Derived(tag, signed),
-            _ => Literal::RuleDefeated(1 + self.below(256) as u16),
+            _ => Literal::RuleDefeated(self.upto(PLAIN.numbers)),
         }
     }
 
-    fn taken_part(&mut self, count: u64, kinds: u64) -> Vec<Literal> {
+    fn taken_part(&mut self, count: usize, kinds: u64) -> Vec<Literal> {
         (0..count).map(|_| self.taken_literal(kinds)).collect()
     }
 
     /// A rule that the library takes, with so many literals in each part: of a source, or of a plain program.
-    fn taken_rule(&mut self, counts: [u64; 3], is_plain: bool) -> Rule {
+    fn taken_rule(&mut self, counts: [usize; 3], is_plain: bool) -> Rule {
         let kinds = if is_plain { 4 } else { 2 };
         let [heads, positives, nafs] = counts;
-        let tag = if is_plain || heads == 0 || self.below(2) == 0 { None } else { Some(1 + self.below(200) as u16) };
+        let tag = if is_plain || heads == 0 || self.below(2) == 0 { None } else { Some(self.upto(SOURCE.tags)) };
         Rule {
             tag,
             heads: self.taken_part(heads, if tag.is_some() { 1 } else { kinds }),
@@ -261,7 +273,7 @@ fn records_lie_where_the_library_shows_them() {
             let count = random.below(12);
             let rules: Vec<_> = (0..count)
                 .map(|_| {
-                    let counts = [random.below(17), random.below(17), random.below(17)];
+                    let counts = FULL.map(|most| random.below(most as u64 + 1) as usize);
                     random.taken_rule(counts, is_plain)
                 })
                 .collect();
@@ -273,20 +285,20 @@ fn records_lie_where_the_library_shows_them() {
 #[test]
 fn records_of_the_longest_programs_lie_where_the_library_shows_them() {
     let mut random = Random(0x9E6C_63D0_876A_9A35);
-    let rules: Vec<_> = (0..256)
+    let rules: Vec<_> = (0..SOURCE.rules)
         .map(|_| {
-            let rule = random.taken_rule([16, 16, 16], false);
+            let rule = random.taken_rule(FULL, false);
             // Each rule with options, so that the translation has as many rules as the plain form takes.
-            Rule { tag: Some(7), heads: random.taken_part(16, 1), ..rule }
+            Rule { tag: Some(7), heads: random.taken_part(SOURCE.heads, 1), ..rule }
         })
         .collect();
     let source = encode_program(&rules).bytes;
-    assert_eq!(source.len(), 63_236);
+    assert_eq!(source.len(), SOURCE.length);
     records_are_as_shown(&source, false, 1);
 
     let mut out = vec![0; aspda::translation_bound(&source)];
     let translation = aspda::translate(&source, &mut out).unwrap();
-    assert_eq!((translation.len(), aspda::read_plain(translation)), (317_444, Ok(12_800)));
+    assert_eq!((translation.len(), aspda::read_plain(translation)), (PLAIN.length, Ok(PLAIN.rules as u32)));
     // Each call of show reads the whole program: all of them would take seconds.
     records_are_as_shown(translation, true, 61);
 }

@@ -5,22 +5,20 @@ use mathlib.Core.Path.{_∙_, ap}
 use borrow.Author.Needs.{needs}
 use denote.Ref.{now}
 use Rattle.literal.specs.Limits.{source}
-use Rattle.word.specs.Words.{checkWord}
+use Rattle.aspda_word.specs.Words.{checkWord}
 use Rattle.aspda.proofs.Laws.Verdicts.{checked-short}
 use Rattle.aspda.proofs.exports.aspda_check_source.Statement.{statement}
 use Rattle.aspda.proofs.exports.aspda_check_source.Tie as tie
 
-check-source-requires : tie.Need-check-source-requires
-check-source-requires c κs = search needs
-
 check-word-requires : tie.Need-check-word-requires
 unfolding source
 check-word-requires c κs =
-    let a = c .before .before .before .before .before .before .before .args in
-    checked-short source (omega arith) (omega arith) (omega arith) (now (a .s)) (now (a .k)) (now (a .out)) (λ i. c .before .before .before .before .before .before .shared-slice-known .given i .fits) (λ i. c .before .before .before .before .before .shared-slice-known2 .given i .fits) _ (c .before .before .check-source .ensures .answer)
-
-same-length : tie.Need-same-length
-same-length c = search needs
+    let at-check-source = c .before .before in
+    let at-shared-slice-known2 = at-check-source .before .before .before in
+    let a = at-shared-slice-known2 .before .before .args in
+    checked-short source (omega arith) (omega arith) (omega arith) (now (a .s)) (now (a .k)) (now (a .out))
+    (λ i. at-shared-slice-known2 .before .shared-slice-known .given i .fits)
+    (λ i. at-shared-slice-known2 .shared-slice-known2 .given i .fits) _ (at-check-source .check-source .ensures .answer)
 
 returns : tie.Need-returns
 returns c =
@@ -28,5 +26,4 @@ returns c =
     record { answer = c .check-word .ensures ∙ ap checkWord (met .answer); buffer = met .buffer }
 
 pub aspda-check-source-spec : {M : Type 1} → statement M
-aspda-check-source-spec =
-    tie.close (tie.spec check-source-requires check-word-requires same-length returns)
+aspda-check-source-spec = tie.close (tie.spec (λ c κs. search needs) check-word-requires (λ c. search needs) returns)

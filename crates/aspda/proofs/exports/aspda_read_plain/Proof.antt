@@ -5,13 +5,10 @@ use mathlib.Core.Path.{_∙_, ap}
 use borrow.Author.Needs.{needs}
 use denote.Ref.{now}
 use Rattle.literal.specs.Limits.{plain}
-use Rattle.word.specs.Words.{readingWord}
+use Rattle.aspda_word.specs.Words.{readingWord}
 use Rattle.aspda.proofs.Laws.Words.{reading-short}
 use Rattle.aspda.proofs.exports.aspda_read_plain.Statement.{statement}
 use Rattle.aspda.proofs.exports.aspda_read_plain.Tie as tie
-
-read-plain-requires : tie.Need-read-plain-requires
-read-plain-requires c κs = search needs
 
 reading-word-requires : tie.Need-reading-word-requires
 unfolding plain
@@ -21,4 +18,4 @@ returns : tie.Need-returns
 returns c = c .reading-word .ensures ∙ ap readingWord (c .before .read-plain .ensures)
 
 pub aspda-read-plain-spec : {M : Type 1} → statement M
-aspda-read-plain-spec = tie.close (tie.spec read-plain-requires reading-word-requires returns)
+aspda-read-plain-spec = tie.close (tie.spec (λ c κs. search needs) reading-word-requires returns)

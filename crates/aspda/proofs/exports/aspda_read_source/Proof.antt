@@ -5,13 +5,10 @@ use mathlib.Core.Path.{_∙_, ap}
 use borrow.Author.Needs.{needs}
 use denote.Ref.{now}
 use Rattle.literal.specs.Limits.{source}
-use Rattle.word.specs.Words.{readingWord}
+use Rattle.aspda_word.specs.Words.{readingWord}
 use Rattle.aspda.proofs.Laws.Words.{reading-short}
 use Rattle.aspda.proofs.exports.aspda_read_source.Statement.{statement}
 use Rattle.aspda.proofs.exports.aspda_read_source.Tie as tie
-
-read-source-requires : tie.Need-read-source-requires
-read-source-requires c κs = search needs
 
 reading-word-requires : tie.Need-reading-word-requires
 unfolding source
@@ -21,4 +18,4 @@ returns : tie.Need-returns
 returns c = c .reading-word .ensures ∙ ap readingWord (c .before .read-source .ensures)
 
 pub aspda-read-source-spec : {M : Type 1} → statement M
-aspda-read-source-spec = tie.close (tie.spec read-source-requires reading-word-requires returns)
+aspda-read-source-spec = tie.close (tie.spec (λ c κs. search needs) reading-word-requires returns)

@@ -5,22 +5,17 @@ use mathlib.Core.Path.{_∙_, ap}
 use borrow.Author.Needs.{needs}
 use denote.Ref.{now}
 use Rattle.literal.specs.Limits.{plain}
-use Rattle.word.specs.Words.{writtenWord}
+use Rattle.aspda_word.specs.Words.{writtenWord}
 use Rattle.aspda.proofs.Laws.Words.{restricted-short}
 use Rattle.aspda.proofs.exports.aspda_restrict.Statement.{statement}
 use Rattle.aspda.proofs.exports.aspda_restrict.Tie as tie
 
-restrict-plain-requires : tie.Need-restrict-plain-requires
-restrict-plain-requires c κs = search needs
-
 written-word-requires : tie.Need-written-word-requires
 unfolding plain
 written-word-requires c κs =
-    let a = c .before .before .before .before .before .before .args in
+    let at-restrict-plain-arg = c .before .before .before in
+    let a = at-restrict-plain-arg .before .before .before .args in
     restricted-short plain (omega arith) (now (a .k)) (omega arith) (now (a .out)) _ (c .before .before .restrict-plain .ensures .answer)
-
-same-length : tie.Need-same-length
-same-length c = search needs
 
 returns : tie.Need-returns
 returns c =
@@ -28,5 +23,4 @@ returns c =
     record { answer = c .written-word .ensures ∙ ap writtenWord (met .answer); buffer = met .buffer }
 
 pub aspda-restrict-spec : {M : Type 1} → statement M
-aspda-restrict-spec =
-    tie.close (tie.spec restrict-plain-requires written-word-requires same-length returns)
+aspda-restrict-spec = tie.close (tie.spec (λ c κs. search needs) written-word-requires (λ c. search needs) returns)

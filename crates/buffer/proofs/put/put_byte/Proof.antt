@@ -5,14 +5,8 @@ use Rattle.buffer.proofs.Laws.Write.{set-write}
 use Rattle.buffer.proofs.put.put_byte.Statement.{statement}
 use Rattle.buffer.proofs.put.put_byte.Tie as tie
 
-slice-write-out : tie.Need-slice-write-out
-slice-write-out c = search needs
-
-same-length : tie.Need-same-length
-same-length c = search needs
-
 returns : tie.Need-returns
 returns c = set-write (c .args .out .now) (c .args .at) (c .args .b) (search needs)
 
 pub put-byte-spec : {M : Type 1} → statement M
-put-byte-spec = tie.close (tie.spec slice-write-out same-length returns)
+put-byte-spec = tie.close (tie.spec (λ c. search needs) (λ c. search needs) returns)

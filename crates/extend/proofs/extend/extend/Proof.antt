@@ -8,20 +8,12 @@ use Rattle.extend.proofs.Laws.Outcome.{extended-refused}
 use Rattle.extend.proofs.extend.extend.Statement.{statement}
 use Rattle.extend.proofs.extend.extend.Tie as tie
 
-read-inputs-requires : tie.Need-read-inputs-requires
-read-inputs-requires c κs = search needs
-
-enum-known-inputs : tie.Need-enum-known-inputs
-enum-known-inputs c = search needs
-
-enum-known-inputs-2 : tie.Need-enum-known-inputs-2
-enum-known-inputs-2 c = search needs
-
 write-extension-requires : tie.Need-write-extension-requires
 write-extension-requires c κs =
     let at-count = c .before .before in
     let at-read = at-count .before .before in
-    let start = at-read .before .before .before .before in
+    let at-shared-slice-known = at-read .before .before .before in
+    let start = at-shared-slice-known .before in
     let a = start .args in
     (start .pre, inputs-read (a .lim) (a .lim .literals) (now (a .s)) (now (a .k)) _ (sym (at-read .read-inputs .ensures) ∙ at-count .inputs2 .given .1))
 
@@ -29,23 +21,11 @@ returns : tie.Need-returns
 returns c =
     let at-refused = c .before in
     let at-read = at-refused .before .before in
-    let a = at-read .before .before .before .before .args in
+    let at-shared-slice-known = at-read .before .before .before in
+    let a = at-shared-slice-known .before .args in
     extended-refused (a .lim) (now (a .s)) (now (a .k)) (a .out .now) _ (sym (at-read .read-inputs .ensures) ∙ at-refused .inputs .given .1)
-
-same-length : tie.Need-same-length
-same-length c = search needs
-
-returns-2 : tie.Need-returns-2
-returns-2 c = search needs
 
 pub extend-spec : {M : Type 1} → statement M
 extend-spec =
-    tie.close
-    (tie.spec
-    read-inputs-requires
-    enum-known-inputs
-    enum-known-inputs-2
-    write-extension-requires
-    returns
-    same-length
-    returns-2)
+    tie.close (tie.spec (λ c κs. search needs) (λ c. search needs) (λ c. search needs) write-extension-requires returns (λ c. search needs)
+    (λ c. search needs))

@@ -9,19 +9,16 @@ use Rattle.extend.proofs.Laws.Outcome.{meets-same, extendable-source}
 use Rattle.extend.proofs.extend.extend_source.Statement.{statement}
 use Rattle.extend.proofs.extend.extend_source.Tie as tie
 
-limits-requires : tie.Need-limits-requires
-limits-requires c κs = search needs
-
 extend-requires : tie.Need-extend-requires
 extend-requires c κs = subst Extendable (sym (c .before .limits .ensures)) extendable-source
 
-same-length : tie.Need-same-length
-same-length c = search needs
-
 returns : tie.Need-returns
 returns c =
-    let a = c .before .before .before .before .before .before .before .before .args in
-    meets-same (c .before .before .before .before .limits .result) source (now (a .s)) (now (a .k)) (a .out .now) (c .before .before .before .before .limits .ensures) (c .before .before .extend .ensures)
+    let at-extend = c .before .before in
+    let at-limits = at-extend .before .before in
+    let at-shared-slice-known = at-limits .before .before .before in
+    let a = at-shared-slice-known .before .args in
+    meets-same (at-limits .limits .result) source (now (a .s)) (now (a .k)) (a .out .now) (at-limits .limits .ensures) (at-extend .extend .ensures)
 
 pub extend-source-spec : {M : Type 1} → statement M
-extend-source-spec = tie.close (tie.spec limits-requires extend-requires same-length returns)
+extend-source-spec = tie.close (tie.spec (λ c κs. search needs) extend-requires (λ c. search needs) returns)

@@ -7,24 +7,12 @@ use Rattle.inputs.proofs.Laws.Inputs.{reading-program, reading-set}
 use Rattle.inputs.proofs.read.read_inputs.Statement.{statement}
 use Rattle.inputs.proofs.read.read_inputs.Tie as tie
 
-read-requires : tie.Need-read-requires
-read-requires c κs = search needs
-
-enum-told : tie.Need-enum-told
-enum-told c = search needs
-
-enum-told-2 : tie.Need-enum-told-2
-enum-told-2 c = search needs
-
 returns : tie.Need-returns
 returns c =
     let at-read = c .before .before in
     let a = at-read .before .before .before .args in
     let told = c .enum-told2 .given .1 in
     told ∙ sym (reading-program (a .lim) (a .most) (now (a .s)) (now (a .k)) _ (sym (at-read .read .ensures) ∙ told))
-
-read-set-requires : tie.Need-read-set-requires
-read-set-requires c κs = search needs
 
 returns-2 : tie.Need-returns-2
 returns-2 c =
@@ -34,4 +22,4 @@ returns-2 c =
 
 pub read-inputs-spec : {M : Type 1} → statement M
 read-inputs-spec =
-    tie.close (tie.spec read-requires enum-told enum-told-2 returns read-set-requires returns-2)
+    tie.close (tie.spec (λ c κs. search needs) (λ c. search needs) (λ c. search needs) returns (λ c κs. search needs) returns-2)

@@ -6,24 +6,22 @@ use lib.Dec.{leb}
 use lib.ListN.{length}
 use denote.Ref.{now}
 use borrow.Author.Tests.{le-leb}
-use Rattle.litset.specs.Code.{keySet}
+use Rattle.set.specs.Code.{keySet}
 use Rattle.quotient.specs.Code.{quotientOf}
-use Rattle.quotient.proofs.Laws.Short.{quotient-of-short}
+use Rattle.quotient.proofs.Laws.Program.{quotient-of-short}
 use Rattle.quotient.proofs.pass.is_room.Statement.{statement}
 use Rattle.quotient.proofs.pass.is_room.Tie as tie
 
 returns : tie.Need-returns
-returns c =
+returns c w =
     let a = c .before .before .before .args in
-    λ p e. sym (le-leb (length (quotientOf p (keySet (now (a .set)) (a .count)))) (a .room) (omega (arith, quotient-of-short p (keySet (now (a .set)) (a .count)), ap length e, c .if1 .taken)))
-
-measure-quotient-requires : tie.Need-measure-quotient-requires
-measure-quotient-requires c κs = (c .before .before .before .pre .0, (c .before .before .before .pre .1 .0, c .before .before .before .pre .1 .1))
+    let u = keySet (now (a .set)) (a .count) in
+    sym (le-leb (length (quotientOf (w .program) u)) (a .room) (omega (arith, quotient-of-short (w .program) u, ap length (w .bytes), c .if1 .taken)))
 
 returns-2 : tie.Need-returns-2
-returns-2 c =
-    let a = c .before .before .before .before .args in
-    λ p e. ap (λ n. leb n (a .room)) (c .measure-quotient .ensures p e)
+returns-2 c w =
+    let at-if1 = c .before in
+    ap (λ n. leb n (at-if1 .before .before .before .args .room)) (c .measure-quotient .ensures w)
 
 pub is-room-spec : {M : Type 1} → statement M
-is-room-spec = tie.close (tie.spec returns measure-quotient-requires returns-2)
+is-room-spec = tie.close (tie.spec returns (λ c κs. c .before .before .before .pre) returns-2)

@@ -1,179 +1,149 @@
--- `pass::write_quotient` meets its contract. Invariant: of each program that the slice holds, the quotient's rest is left to write at
--- `to`, for the rules from `at` on. Measure: the bytes left.
+-- `pass::write_quotient` meets its contract. Invariant: what the set leaves of the rules that are gone is written, counted and
+-- measured, and the buffer keeps its length. Measure: the bytes left.
 -- Assumes nothing.
 use Prim.Native.Nat.{ℕ, _+_, _-_, _≤_}
 use native.Mathlib.Omega.{arith}
-use mathlib.Core.Path.{_≡_, refl, _∙_, sym, ap, subst}
+use mathlib.Core.Path.{_≡_, refl, _∙_}
 use mathlib.Core.List.{List}
-use lib.ListN.{length, getD}
+use lib.ListN.{length, take, drop}
+use borrow.Author.Needs.{needs}
 use denote.Ref.{now}
 use borrow.Rule.Slice.PartAt.{part-to-end}
-use Rattle.buffer.specs.Write.{write}
-use Rattle.semantics.specs.Rule.{Program}
-use Rattle.record.specs.Layout.{encodedEnd, encodedProgram}
-use Rattle.record.specs.Code.{recordSize}
-use Rattle.record.proofs.Laws.Size.{Passed, passed}
-use Rattle.litset.specs.Code.{keySet}
-use Rattle.emit.proofs.Laws.Stands.{stands-open}
-use Rattle.remainder.specs.Code.{remainderAt}
-use Rattle.quotient.specs.Code.{quotientOf}
-use Rattle.quotient.proofs.Laws.Pass.{one-few, Writing, Next, writing-start, writing-more, writing-next, writing-end}
-use borrow.Author.Needs.{needs}
+use Rattle.semantics.specs.Set.{LiteralSet}
+use Rattle.record_walk.specs.Code.{Holds}
+use Rattle.record_walk.proofs.Laws.Walk.{Along, More, Pass, walk-open, walk-more, walk-few, pass-start, pass-next, along-end}
+use Rattle.set.specs.Code.{keySet}
+use Rattle.quotient.specs.Code.{Fitting}
+use Rattle.quotient.proofs.Laws.Program.{length-quotient, rules-left}
+use Rattle.quotient.proofs.Laws.Pass.{Made, adds-few, adds-within, one-few, made-start, made-next, made-end}
 use Rattle.quotient.proofs.pass.write_quotient.Statement.{statement}
 use Rattle.quotient.proofs.pass.write_quotient.Tie as tie
 
 abbrev Inv-loop : tie.InvT-loop
-Inv-loop s set count out₀ at₀ made₀ to₀ out at made to = (length out ≡ length out₀) × Writing s set count out₀ out at made to
+Inv-loop s set count out₀ at₀ made₀ to₀ out at made to =
+    (length out ≡ length out₀) × Pass (Fitting (keySet set count) (length out₀)) s at (Made (keySet set count) out₀ out made to)
 
 abbrev μ-loop : tie.MeasureT-loop
 μ-loop s set count out₀ at₀ made₀ to₀ out at made to = length s - at
 
-loop-holds : tie.Need-loop-holds Inv-loop μ-loop
-loop-holds c = (refl, writing-start (now (c .before .before .before .args .s)) (now (c .before .before .before .args .set)) (c .before .before .before .args .count) (c .before .before .before .args .out .now))
+-- the entry; the program's bytes and the program, the part that is left, the buffer that came, and the set
+abbrev start-of : tie.At-loop Inv-loop μ-loop → tie.Start Inv-loop μ-loop
+start-of c =
+    let at-shared-slice-known = c .before .before .before in
+    at-shared-slice-known .before
 
--- the program's bytes, the set's, and the buffer that came
 abbrev source : tie.At-loop Inv-loop μ-loop → List ℕ
-source c = now (c .before .before .before .before .args .s)
+source c = now (start-of c .args .s)
 
-abbrev members : tie.At-loop Inv-loop μ-loop → List ℕ
-members c = now (c .before .before .before .before .args .set)
+abbrev part : tie.At-loop Inv-loop μ-loop → List ℕ
+part c = take (length (source c) - c .loop .at) (drop (c .loop .at) (source c))
 
 abbrev came : tie.At-loop Inv-loop μ-loop → List ℕ
-came c = c .before .before .before .before .args .out .now
+came c = start-of c .args .out .now
 
--- a record stands at `at`, the end's at least
+abbrev members : tie.At-loop Inv-loop μ-loop → LiteralSet
+members c = keySet (now (start-of c .args .set)) (start-of c .args .count)
+
+abbrev held : (c : tie.At-loop Inv-loop μ-loop) → Holds (Fitting (members c) (length (came c))) (source c)
+held c = start-of c .pre .0
+
+-- where the loop is
+here : (c : tie.At-loop Inv-loop μ-loop)
+    → Along (source c) (held c .program) (c .loop .at) (Made (members c) (came c) (c .loop .out) (c .loop .made) (c .loop .to))
+here c = c .loop .inv .1 (held c)
+
 opens : (c : tie.At-loop Inv-loop μ-loop) → c .loop .at + 4 ≤ length (source c)
-opens c =
-    let w = c .before .before .before .before .pre .0 in
-    let left = c .loop .inv .1 (w .program) (w .bytes) (c .before .before .before .before .pre .1 .1 .1 (w .program) (w .bytes)) in
-    stands-open (source c) (c .loop .at) (left .rules) (left .counted) (left .stands)
+opens c = walk-open (here c .walk)
 
--- what is asked of a rule's record
-next : (c : tie.At-loop Inv-loop μ-loop) → (getD (source c) (c .loop .at) 0 ≡ 0x45 → ⊥)
-    → Next (source c) (members c) (c .before .before .before .before .args .count) (came c) (c .before .before .before .before .pre .0 .program) (c .loop .out) (c .loop .at) (c .loop .made) (c .loop .to)
-next c more =
-    let l = c .loop in
-    let w = c .before .before .before .before .pre .0 in
-    let room = c .before .before .before .before .pre .1 .1 .1 (w .program) (w .bytes) in
-    writing-more (source c) (members c) (c .before .before .before .before .args .count) (came c) (w .program) (w .bytes) room (l .out) (l .at) (l .made) (l .to) (l .inv .1) more
+-- the next rule's record, where there is no E
+abbrev loop-of : tie.After-part Inv-loop μ-loop → tie.At-loop Inv-loop μ-loop
+loop-of c = c .before .before .before
 
--- at the end record, what was written
-ended : (c : tie.At-loop Inv-loop μ-loop) → getD (source c) (c .loop .at) 0 ≡ 0x45 → (p : Program) → source c ≡ encodedProgram p
-    → (write (came c) 0 (quotientOf p (keySet (members c) (c .before .before .before .before .args .count))) ≡ write (c .loop .out) (c .loop .to) (encodedEnd (c .loop .made)))
-    × (c .loop .to + 4 ≤ length (c .loop .out))
-    × (c .loop .to + 4 ≡ length (quotientOf p (keySet (members c) (c .before .before .before .before .args .count))))
-ended c last p e =
-    let l = c .loop in
-    writing-end (source c) (members c) (c .before .before .before .before .args .count) (came c) p e (c .before .before .before .before .pre .1 .1 .1 p e) (l .out) (l .at) (l .made) (l .to) (l .inv .1) last
-
-shared-slice-read-if1 : tie.Need-shared-slice-read-if1 Inv-loop μ-loop
-shared-slice-read-if1 c = omega (arith, opens (c .before))
-
-sub-part : tie.Need-sub-part Inv-loop μ-loop
-sub-part c = omega (arith, opens (c .before .before))
-
-part-part-start : tie.Need-part-part-start Inv-loop μ-loop
-part-part-start c = omega (arith, opens (c .before .before))
-
-part-part-end : tie.Need-part-part-end Inv-loop μ-loop
-part-part-end c = omega (arith, opens (c .before .before))
+next : (c : tie.After-part Inv-loop μ-loop)
+    → More (source (loop-of c)) (held (loop-of c) .program) (here (loop-of c) .gone) (loop-of c .loop .at) (part (loop-of c))
+next c = walk-more (here (loop-of c) .walk) (c .before .if1 .taken) (part (loop-of c)) (part-to-end (source (loop-of c)) (loop-of c .loop .at))
 
 write-remainder-requires : tie.Need-write-remainder-requires Inv-loop μ-loop
 write-remainder-requires c κs =
-    let start = c .before .before .before .before .before .before .before .before in
-    let a = start .args in
-    let l = c .before .before .before .before .loop in
-    let more = next (c .before .before .before .before) (c .before .before .if1 .taken) in
-    let q = subst (λ x. (recordSize x ≤ length x) × (l .to + length (remainderAt x (now (a .set)) (a .count)) + 4 ≤ length (l .out))) (sym (part-to-end (now (a .s)) (l .at))) (more .fits, more .room) in
-    (q .0, (search needs, (start .pre .1 .1 .0, omega (arith, q .1))))
+    let at-loop = loop-of (c .before) in
+    let start = start-of at-loop in
+    let m = next (c .before) in
+    let room = adds-within m (now (start .args .set)) (start .args .count) in
+    (m .whole, (start .pre .1 .0, (start .pre .1 .1, omega (arith, room, here at-loop .made .long, held at-loop .asked .fits, at-loop .loop .inv .0))))
+
+-- where what is left of the rule was written
+abbrev part-of : tie.After-write-remainder Inv-loop μ-loop → tie.After-part Inv-loop μ-loop
+part-of c = c .before .before
+
+abbrev write-of : tie.After-count-record Inv-loop μ-loop → tie.After-write-remainder Inv-loop μ-loop
+write-of c = c .before .before .before
 
 add-to : tie.Need-add-to Inv-loop μ-loop
 add-to c =
-    let a = c .before .before .before .before .before .before .before .before .before .before .before .args in
-    let same = part-to-end (now (a .s)) (c .before .before .before .before .before .before .before .loop .at) in
-    omega (arith, next (c .before .before .before .before .before .before .before) (c .before .before .before .before .before .if1 .taken) .room, c .before .before .write-remainder .ensures .0 ∙ ap (λ x. length (remainderAt x (now (a .set)) (a .count))) same)
-
-count-record-requires : tie.Need-count-record-requires Inv-loop μ-loop
-count-record-requires c κs = search needs
+    let at-part = part-of (c .before .before) in
+    let a = start-of (loop-of at-part) .args in
+    let m = next at-part in
+    omega (arith, adds-few m (now (a .set)) (a .count), m .fits, here (loop-of at-part) .made .long, c .before .before .write-remainder .ensures .0)
 
 add-made : tie.Need-add-made Inv-loop μ-loop
 add-made c =
-    let at-loop = c .before .before .before .before .before .before .before .before in
-    let one = one-few (c .before .before .before .write-remainder .result) (c .count-record .result) (c .count-record .ensures) in
-    omega (arith, next at-loop (c .before .before .before .before .before .before .if1 .taken) .few, at-loop .before .before .before .before .pre .0 .few, one)
-
-record-size-requires : tie.Need-record-size-requires Inv-loop μ-loop
-record-size-requires c κs =
-    let at-loop = c .before .before .before .before .before .before .before .before in
-    omega (arith, next at-loop (c .before .before .before .before .before .before .if1 .taken) .fits, ap length (part-to-end (source at-loop) (at-loop .loop .at)))
-
--- the record is passed
-beyond : (c : tie.After-record-size Inv-loop μ-loop) → Passed (source (c .before .before .before .before .before .before .before .before .before)) (c .before .before .before .before .before .before .before .before .before .loop .at) (c .record-size .result)
-beyond c =
-    let at-loop = c .before .before .before .before .before .before .before .before .before in
-    passed (source at-loop) (at-loop .loop .at) _ (omega (arith, opens at-loop)) (next at-loop (c .before .before .before .before .before .before .before .if1 .taken) .fits) (c .record-size .ensures)
-
-add-at : tie.Need-add-at Inv-loop μ-loop
-add-at c = omega (arith, beyond c .fits)
-
-loop-less : tie.Need-loop-less Inv-loop μ-loop
-loop-less c = omega (arith, beyond c .large, beyond c .fits)
+    let at-part = part-of (write-of c) in
+    let at-loop = loop-of at-part in
+    let walk = here at-loop .walk in
+    let few = rules-left (members at-loop) (here at-loop .gone) in
+    let one = one-few (write-of c .write-remainder .result) (c .count-record .result) (c .count-record .ensures) in
+    omega (arith, few, walk-few walk (at-part .before .if1 .taken), held at-loop .asked .few, here at-loop .made .counted, one)
 
 loop-again : tie.Need-loop-again Inv-loop μ-loop
 loop-again c =
-    let a = c .before .before .before .before .before .before .before .before .before .before .before .before .before .args in
-    let l = c .before .before .before .before .before .before .before .before .before .loop in
-    let same = part-to-end (now (a .s)) (l .at) in
-    let written = c .before .before .before .before .write-remainder in
-    let kept = written .kept .1 .1 .1 .0 in (
-      kept ∙ l .inv .0,
-      writing-next (now (a .s)) (now (a .set)) (a .count) (a .out .now) (l .out) _ (l .at) (l .made) (l .to) (l .inv .1) (c .before .before .before .before .before .before .before .if1 .taken)
-          (written .ensures .1 ∙ ap (λ x. write (l .out) (l .to) (remainderAt x (now (a .set)) (a .count))) same) kept
-          _ _ _ (written .ensures .0 ∙ ap (λ x. length (remainderAt x (now (a .set)) (a .count))) same) (c .before .count-record .ensures) (beyond c .same),
+    let at-write = write-of (c .before) in
+    let at-part = part-of at-write in
+    let at-loop = loop-of at-part in
+    let l = at-loop .loop in
+    let a = start-of at-loop .args in
+    let written = at-write .write-remainder in (
+      written .kept .1 .1 .1 .0 ∙ l .inv .0,
+      pass-next (l .inv .1) (at-part .before .if1 .taken) (part at-loop) (part-to-end (source at-loop) (l .at)) _ (c .record-size .ensures)
+          (Made (members at-loop) (came at-loop) _ (l .made + c .before .count-record .result) (l .to + written .result))
+          (λ w along m. made-next (now (a .set)) (a .count) m (along .made) (written .ensures .1) _ _ (written .ensures .0) (c .before .count-record .ensures)),
     )
 
 cast-write-end : tie.Need-cast-write-end Inv-loop μ-loop
 cast-write-end c =
-    let start = c .before .before .before .before .before .before in
-    let w = start .pre .0 in
-    omega (arith, c .before .before .loop .inv .1 (w .program) (w .bytes) (start .pre .1 .1 .1 (w .program) (w .bytes)) .few, w .few)
+    let at-loop = c .before .before in
+    let made = along-end (here at-loop) (c .if1 .left) in
+    omega (arith, made .counted, rules-left (members at-loop) (held at-loop .program), held at-loop .asked .few)
 
-write-end-requires : tie.Need-write-end-requires Inv-loop μ-loop
-write-end-requires c κs = let w = c .before .before .before .before .before .before .before .pre .0 in omega (arith, ended (c .before .before .before) (c .before .if1 .left) (w .program) (w .bytes) .1)
-
-add-result : tie.Need-add-result Inv-loop μ-loop
-add-result c = let w = c .before .before .before .before .before .before .before .before .before .before .pre .0 in omega (arith, ended (c .before .before .before .before .before .before) (c .before .before .before .before .if1 .left) (w .program) (w .bytes) .1)
+-- at the end record there is room for it
+ended : (c : tie.After-write-end-arg Inv-loop μ-loop) → c .before .before .before .loop .to + 4 ≤ length (c .before .before .before .loop .out)
+ended c =
+    let at-loop = c .before .before .before in
+    let w = held at-loop in
+    let made = along-end (here at-loop) (c .before .if1 .left) in
+    omega (arith, made .long, length-quotient (members at-loop) (w .program), w .asked .fits, at-loop .loop .inv .0)
 
 same-length : tie.Need-same-length Inv-loop μ-loop
-same-length c = c .before .before .write-end .kept .1 .0 ∙ c .before .before .before .before .before .before .loop .inv .0
+same-length c =
+    let at-end = c .before .before in
+    let at-if1 = at-end .before .before in
+    at-end .write-end .kept .1 .0 ∙ at-if1 .before .before .loop .inv .0
 
 returns : tie.Need-returns Inv-loop μ-loop
-returns c = (
-  λ p e. ended (c .before .before .before .before .before .before) (c .before .before .before .before .if1 .left) p e .2,
-  λ p e. c .before .before .write-end .ensures ∙ sym (ended (c .before .before .before .before .before .before) (c .before .before .before .before .if1 .left) p e .0),
-)
+returns c =
+    let at-end = c .before .before in
+    let at-if = at-end .before .before in
+    let at-loop = at-if .before .before in (
+      λ w. let made = along-end (at-loop .loop .inv .1 w) (at-if .if1 .left) in omega (arith, made .long, length-quotient (members at-loop) (w .program)),
+      λ w. made-end (along-end (at-loop .loop .inv .1 w) (at-if .if1 .left)) (at-end .write-end .ensures),
+    )
 
 pub write-quotient-spec : {M : Type 1} → statement M
 write-quotient-spec =
-    tie.close
-    (tie.spec
-    Inv-loop
-    μ-loop
-    loop-holds
-    shared-slice-read-if1
-    sub-part
-    part-part-start
-    part-part-end
-    write-remainder-requires
-    add-to
-    count-record-requires
-    add-made
-    record-size-requires
-    add-at
-    loop-less
-    loop-again
-    cast-write-end
-    write-end-requires
-    add-result
-    same-length
-    returns)
+    tie.close (tie.spec Inv-loop μ-loop
+    (λ c. let a = c .before .before .before .args in (refl, pass-start (now (a .s)) _ (made-start (keySet (now (a .set)) (a .count)) (a .out .now))))
+    (λ c. omega (arith, opens (c .before))) (λ c. omega (arith, opens (c .before .before))) (λ c. omega (arith, opens (c .before .before)))
+    (λ c. search needs) write-remainder-requires add-to (λ c κs. search needs) add-made
+    (λ c κs. omega (arith, next (part-of (write-of c)) .whole))
+    (λ c. omega (arith, next (part-of (write-of (c .before))) .fits, c .record-size .ensures))
+    (λ c. omega (arith, next (part-of (write-of (c .before))) .fits, c .record-size .ensures)) loop-again cast-write-end
+    (λ c κs. omega (arith, ended c)) (λ c. omega (arith, ended (c .before .before .before))) same-length returns)

@@ -2,26 +2,23 @@
 -- Assumes nothing.
 use mathlib.Core.Path.{sym, subst}
 use denote.Ref.{now}
+use borrow.Author.Needs.{needs}
 use Rattle.literal.specs.Limits.{plain}
 use Rattle.quotient.specs.Code.{Sized}
 use Rattle.quotient.proofs.Laws.Quotient.{met-same, sized-plain}
-use borrow.Author.Needs.{needs}
 use Rattle.quotient.proofs.quotient.quotient_plain.Statement.{statement}
 use Rattle.quotient.proofs.quotient.quotient_plain.Tie as tie
-
-limits-requires : tie.Need-limits-requires
-limits-requires c κs = search needs
 
 divide-requires : tie.Need-divide-requires
 divide-requires c κs = subst Sized (sym (c .before .limits .ensures)) sized-plain
 
-same-length : tie.Need-same-length
-same-length c = search needs
-
 returns : tie.Need-returns
 returns c =
-    let a = c .before .before .before .before .before .before .before .before .args in
-    met-same (c .before .before .before .before .limits .result) plain (now (a .s)) (now (a .k)) (a .out .now) (c .before .before .before .before .limits .ensures) (c .before .before .divide .ensures)
+    let at-divide = c .before .before in
+    let at-limits = at-divide .before .before in
+    let at-shared-slice-known = at-limits .before .before .before in
+    let a = at-shared-slice-known .before .args in
+    met-same (at-limits .limits .result) plain (now (a .s)) (now (a .k)) (a .out .now) (at-limits .limits .ensures) (at-divide .divide .ensures)
 
 pub quotient-plain-spec : {M : Type 1} → statement M
-quotient-plain-spec = tie.close (tie.spec limits-requires divide-requires same-length returns)
+quotient-plain-spec = tie.close (tie.spec (λ c κs. search needs) divide-requires (λ c. search needs) returns)

@@ -9,47 +9,40 @@ use Rattle.restrict.proofs.Laws.Restrict.{Held, read-whole, read-held, 
 use Rattle.restrict.proofs.restrict.restrict.Statement.{statement}
 use Rattle.restrict.proofs.restrict.restrict.Tie as tie
 
+abbrev start-of : tie.After-count-front → tie.Start
+start-of c =
+    let at-match = c .before .before .before in
+    let at-read-set = at-match .before in
+    at-read-set .before .before .before
+
 -- what is kept, once it is counted
-held-now : (c : tie.After-count-front) → Held (c .before .before .before .before .before .before .before .args .lim) (now (c .before .before .before .before .before .before .before .args .k)) (c .before .before .read2 .given .0 .0) (c .count-front .result)
+held-now : (c : tie.After-count-front) → Held (start-of c .args .lim) (now (start-of c .args .k))
+    (c .before .before .read2 .given .0 .0) (c .count-front .result)
 held-now c =
     let at-count = c .before .before in
     let at-read = at-count .before .before in
     let known = at-read .before .before in
     let a = known .before .args in
-    read-held (a .lim) (now (a .k)) (λ i. known .shared-slice-known .given i .fits) _ _ (sym (at-read .read-set .ensures) ∙ at-count .read2 .given .1) (c .count-front .ensures)
-
-read-set-requires : tie.Need-read-set-requires
-read-set-requires c κs = search needs
-
-enum-known-read : tie.Need-enum-known-read
-enum-known-read c = search needs
-
-enum-known-read-2 : tie.Need-enum-known-read-2
-enum-known-read-2 c = search needs
+    read-held (a .lim) (now (a .k)) (λ i. known .shared-slice-known .given i .fits) _ _
+    (sym (at-read .read-set .ensures) ∙ at-count .read2 .given .1) (c .count-front .ensures)
 
 count-front-requires : tie.Need-count-front-requires
 count-front-requires c κs =
     let at-read = c .before .before .before in
     let known = at-read .before .before in
     let a = known .before .args in
-    omega (arith, read-whole (a .lim) (now (a .k)) (λ i. known .shared-slice-known .given i .fits) _ (sym (at-read .read-set .ensures) ∙ c .before .read2 .given .1))
-
-mul-bytes : tie.Need-mul-bytes
-mul-bytes c = omega (arith, held-now c .counted)
-
-add-size : tie.Need-add-size
-add-size c = omega (arith, held-now c .counted)
+    omega (
+      arith,
+      read-whole (a .lim) (now (a .k)) (λ i. known .shared-slice-known .given i .fits) _
+          (sym (at-read .read-set .ensures) ∙ c .before .read2 .given .1),
+    )
 
 returns : tie.Need-returns
 returns c =
-    let a = c .before .before .before .before .before .before .before .before .args in
+    let at-read2 = c .before .before .before in
+    let at-read-set = at-read2 .before .before in
+    let a = at-read-set .before .before .before .args in
     restricted-short (a .lim) (now (a .k)) (a .out .now) (held-now (c .before)) (c .if1 .taken)
-
-cast-write-set-header : tie.Need-cast-write-set-header
-cast-write-set-header c = omega (arith, held-now (c .before) .counted)
-
-write-set-header-requires : tie.Need-write-set-header-requires
-write-set-header-requires c κs = search needs
 
 copy-requires : tie.Need-copy-requires
 copy-requires c κs =
@@ -65,32 +58,20 @@ returns-2 c =
     let a = at-read .before .before .before .args in
     restricted-refused (a .lim) (now (a .k)) (a .out .now) (sym (at-read .read-set .ensures) ∙ at-refused .read .given .1)
 
-same-length : tie.Need-same-length
-same-length c = search needs
-
 returns-3 : tie.Need-returns-3
 returns-3 c =
     let at-copy = c .before .before in
-    let at-front = at-copy .before .before .before .before in
+    let at-out = at-copy .before .before .before in
+    let at-front = at-out .before in
     let at-test = at-front .before .before in
     let at-count = at-test .before in
-    let a = at-count .before .before .before .before .before .before .before .args in
-    restricted-written (a .lim) (now (a .k)) (a .out .now) (held-now at-count) (at-test .if1 .left) (at-front .write-set-header .ensures) (at-copy .copy .ensures)
+    let start = start-of at-count in
+    let a = start .args in
+    restricted-written (a .lim) (now (a .k)) (a .out .now) (held-now at-count) (at-test .if1 .left)
+    (at-front .write-set-header .ensures) (at-copy .copy .ensures)
 
 pub restrict-spec : {M : Type 1} → statement M
 restrict-spec =
-    tie.close
-    (tie.spec
-    read-set-requires
-    enum-known-read
-    enum-known-read-2
-    count-front-requires
-    mul-bytes
-    add-size
-    returns
-    cast-write-set-header
-    write-set-header-requires
-    copy-requires
-    returns-2
-    same-length
-    returns-3)
+    tie.close (tie.spec (λ c κs. search needs) (λ c. search needs) (λ c. search needs) count-front-requires
+    (λ c. omega (arith, held-now c .counted)) (λ c. omega (arith, held-now c .counted)) returns
+    (λ c. omega (arith, held-now (c .before) .counted)) (λ c κs. search needs) copy-requires returns-2 (λ c. search needs) returns-3)

@@ -7,15 +7,6 @@ use Rattle.restrict.proofs.Laws.Restrict.{restricted-same}
 use Rattle.restrict.proofs.restrict.restrict_plain.Statement.{statement}
 use Rattle.restrict.proofs.restrict.restrict_plain.Tie as tie
 
-limits-requires : tie.Need-limits-requires
-limits-requires c κs = search needs
-
-restrict-requires : tie.Need-restrict-requires
-restrict-requires c κs = search needs
-
-same-length : tie.Need-same-length
-same-length c = search needs
-
 returns : tie.Need-returns
 returns c =
     let at-restrict = c .before .before in
@@ -24,4 +15,4 @@ returns c =
     restricted-same (at-limits .limits .result) plain (now (a .k)) (a .out .now) (at-limits .limits .ensures) (at-restrict .restrict .ensures)
 
 pub restrict-plain-spec : {M : Type 1} → statement M
-restrict-plain-spec = tie.close (tie.spec limits-requires restrict-requires same-length returns)
+restrict-plain-spec = tie.close (tie.spec (λ c κs. search needs) (λ c κs. search needs) (λ c. search needs) returns)

@@ -4,22 +4,20 @@ use mathlib.Core.Path.{sym, subst}
 use borrow.Author.Needs.{needs}
 use denote.Ref.{now}
 use Rattle.literal.specs.Limits.{source}
-use Rattle.measure.specs.Code.{Writable}
+use Rattle.translate.specs.Code.{Writable}
 use Rattle.translate.proofs.Laws.Translate.{meets-same, writable-source}
 use Rattle.translate.proofs.translate.translate_source.Statement.{statement}
 use Rattle.translate.proofs.translate.translate_source.Tie as tie
 
-limits-requires : tie.Need-limits-requires
-limits-requires c κs = search needs
-
 translate-requires : tie.Need-translate-requires
 translate-requires c κs = subst Writable (sym (c .before .limits .ensures)) writable-source
 
-same-length : tie.Need-same-length
-same-length c = search needs
-
 returns : tie.Need-returns
-returns c = meets-same (c .before .before .before .before .limits .result) source (now (c .before .before .before .before .before .before .before .args .s)) (c .before .before .before .before .before .before .before .args .out .now) (c .before .before .before .before .limits .ensures) (c .before .before .translate .ensures)
+returns c =
+    let at-translate = c .before .before in
+    let at-limits = at-translate .before .before in
+    let start = at-limits .before .before .before in
+    meets-same (at-limits .limits .result) source (now (start .args .s)) (start .args .out .now) (at-limits .limits .ensures) (at-translate .translate .ensures)
 
 pub translate-source-spec : {M : Type 1} → statement M
-translate-source-spec = tie.close (tie.spec limits-requires translate-requires same-length returns)
+translate-source-spec = tie.close (tie.spec (λ c κs. search needs) translate-requires (λ c. search needs) returns)

@@ -1,4 +1,4 @@
--- `Plain::limits` meets its contract: the constants are the figures of `plain`.
+-- `form::Plain::limits` meets its contract: the constants are the figures of `plain`.
 -- Assumes nothing.
 use mathlib.Core.Path.{refl}
 use Rattle.literal.specs.Limits.{plain}

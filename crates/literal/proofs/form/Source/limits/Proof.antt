@@ -1,4 +1,4 @@
--- `Source::limits` meets its contract: the constants are the figures of `source`.
+-- `form::Source::limits` meets its contract: the constants are the figures of `source`.
 -- Assumes nothing.
 use mathlib.Core.Path.{refl}
 use Rattle.literal.specs.Limits.{source}

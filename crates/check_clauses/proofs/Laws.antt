@@ -1,0 +1,11 @@
+pub mod Position
+pub mod Union
+pub mod Left
+pub mod Rule
+pub mod Record
+pub mod Starts
+pub mod Agree
+pub mod Literals
+pub mod Told
+pub mod Step
+pub mod Build

@@ -1,0 +1,9 @@
+pub mod Decide
+pub mod Distinct
+pub mod Finding
+pub mod Meant
+pub mod Built
+pub mod Judge
+pub mod Found
+pub mod Check
+pub mod Forms

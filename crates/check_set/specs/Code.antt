@@ -1,0 +1,71 @@
+-- What the parts of the check find, between the set's slice and the finding, and what the check asks of a form.
+-- In order: the record and the verdict of what a search over masks found; that the search was done; that a program and a set can be
+-- judged; that they were; a form that the code has room for.
+-- Assumes nothing.
+use Prim.Native.Nat.{ℕ, _-_, _^_, _≤_, _<_}
+use mathlib.Core.Path.{_≡_}
+use mathlib.Core.Bool.{cond}
+use mathlib.Core.List.{List, []}
+use lib.ListN.{length}
+use Rattle.buffer.specs.Bytes.{Bytes}
+use Rattle.buffer.specs.Write.{write}
+use Rattle.literal.specs.declared.Limits.{Limits}
+use Rattle.literal.specs.declared.Literal.{Literal}
+use Rattle.semantics.specs.Rule.{Program}
+use Rattle.semantics.specs.Verdict.{finding}
+use Rattle.record.specs.Layout.{encodedProgram}
+use Rattle.record.specs.Result.{accepted}
+use Rattle.record_walk.specs.Code.{Holds}
+use Rattle.set.specs.Reading.{parsedSet}
+use Rattle.check_force.specs.Code.{Smaller}
+use Rattle.check_search.specs.declared.Found.{Found}
+use Rattle.check_search.specs.Code.{First}
+use Rattle.check_clauses.specs.Code.{Clausable}
+use Rattle.check_witness.specs.Code.{pickedRecord}
+use Rattle.check_set.specs.declared.Verdict.{Verdict}
+use Rattle.check_set.specs.Verdict.{verdictOf, witness}
+
+-- of a set with n literals in s, the record of the part that was found; nothing where none was
+unfoldable pub foundRecord : List ℕ → ℕ → Found → List ℕ
+foundRecord s n f = cond (f .found) (pickedRecord (f .model) s n) []
+
+-- the verdict: that record's length, or yes
+unfoldable pub foundVerdict : List ℕ → ℕ → Found → Verdict
+foundVerdict s n f = cond (f .found) (Verdict.Smaller (length (pickedRecord (f .model) s n))) Verdict.Yes
+
+-- the first smaller model was sought over `count` clauses, and r and `end` are what was found of it
+pub record Decided (s : List ℕ) (n : ℕ) (bodies heads : List ℕ) (count : ℕ) (out : List ℕ) (r : Verdict) (end : List ℕ) : Type 0 where
+  pub model : Found
+  pub first : First (Smaller (2 ^ n - 1) bodies heads count) model
+  pub answer : r ≡ foundVerdict s n model
+  pub buffer : end ≡ write out 0 (foundRecord s n model)
+
+-- s holds a program, with room for a clause of each rule in b bodies and h heads, and k a set of a form's literals, n of them and no
+-- more than a mask has positions; and an output of `size` bytes is as long as the set's record
+pub record Judgeable (s k : List ℕ) (n b h size : ℕ) : Type 0 where
+  pub program : Holds (Clausable b h) s
+  pub form : Limits
+  pub most : ℕ
+  pub literals : List Literal
+  pub set-bytes : Bytes k
+  pub members : parsedSet form most k ≡ accepted literals
+  pub count : length literals ≡ n
+  pub few : n ≤ 64
+  pub room : length k ≤ size
+
+-- the verdict and the output are those of the finding
+pub record Meant (p : Program) (ls : List Literal) (out : List ℕ) (r : Verdict) (end : List ℕ) : Type 0 where
+  pub answer : r ≡ verdictOf (finding p ls)
+  pub buffer : end ≡ write out 0 (witness (finding p ls))
+
+-- so they are, for each program and each set that the slices hold
+abbrev pub Judged : List ℕ → List ℕ → List ℕ → Verdict → List ℕ → Type 0
+Judged s k out r end =
+    (F : Limits) (most : ℕ) (p : Program) (ls : List Literal) → s ≡ encodedProgram p → parsedSet F most k ≡ accepted ls → Meant p ls out r end
+
+-- a form with no more rules than b bodies and h heads of clauses there is room for, and no more
+-- literals in a set that is checked than a mask has positions
+pub record Checkable (F : Limits) (b h : ℕ) : Type 0 where
+  pub rules : (F .rules ≤ b) × (F .rules ≤ h)
+  pub numbered : F .rules < 65535
+  pub checked : F .checked ≤ 64

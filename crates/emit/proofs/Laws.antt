@@ -1,4 +1,0 @@
-pub mod Stores
-pub mod Fields
-pub mod Options
-pub mod Stands

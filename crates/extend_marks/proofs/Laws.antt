@@ -1,0 +1,9 @@
+pub mod Collect
+pub mod Count
+pub mod Derived
+pub mod Gained
+pub mod Each
+pub mod Agree
+pub mod Marks
+pub mod Members
+pub mod Rule

@@ -1,3 +1,0 @@
-// Two runs of keys as one.
-
-pub mod merge;

@@ -1,0 +1,4 @@
+pub mod Left
+pub mod Rule
+pub mod Options
+pub mod Remainder

@@ -1,4 +1,0 @@
-// Reading a program in a form: what it holds, or why and where it is refused.
-
-pub mod read;
-pub mod step;

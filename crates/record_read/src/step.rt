@@ -1,0 +1,190 @@
+// One record of a program, in its own part of the slice: document 01's tests in their order.
+
+use buffer::get::get_number;
+use literal::Limits;
+use literal::Tag;
+use literal_decode::range::is_tag;
+use literal_decode::valid::is_literal;
+use literal_fields::field::get_tag;
+use record::Mark;
+use record::Reason;
+use record::Refusal;
+use record::Run;
+use record::Step;
+ghost use Prim.Native.Nat.{_+_, _*_, _≤_, _<_};
+ghost use mathlib.Core.Path.{_≡_};
+ghost use lib.ListN.{length};
+ghost use Rattle.semantics.specs.Form.{keepsCounts};
+ghost use Rattle.record.specs.Refusal.{refusal};
+ghost use Rattle.record.specs.Reading.{literalsAt, markAt, tagRight, bodyAt, ruleAt, endAt, recordAt};
+ghost use Rattle.record.specs.Code.{runOf, signedKinds, stepOf};
+
+// A refusal at the record's first byte.
+fn refuse(reason: Reason) -> Step
+    ensures { λ r. ⌜ r ≡ Step.Refused (refusal reason 0) ⌝ }
+{
+    Step::Refused(Refusal { reason, place: 0 })
+}
+
+// The mark of the form that the record starts with.
+fn mark_of(lim: Limits, t: &[u8]) -> Mark
+    requires { ⌜ 2 ≤ length (now t) ⌝ }
+    ensures { λ r. ⌜ r ≡ markAt lim (now (t .entry)) ⌝ }
+{
+    if t[1] != b':' {
+        return Mark::NoMark;
+    }
+    let letter = t[0];
+    match letter {
+        b'S' => Mark::RuleMark(false),
+        b'D' => {
+            if lim.defeasible {
+                Mark::RuleMark(true)
+            } else {
+                Mark::NoMark
+            }
+        }
+        b'E' => Mark::EndMark,
+        _ => Mark::NoMark,
+    }
+}
+
+// Whether the tag is in its range: 0 for a strict rule.
+fn is_tag_right(lim: Limits, defeasible: bool, tag: Tag) -> bool
+    ensures { λ r. ⌜ r ≡ tagRight lim defeasible (tag .0) ⌝ }
+{
+    if defeasible {
+        is_tag(lim, tag)
+    } else {
+        tag.0 == 0
+    }
+}
+
+// Whether no count is over its limit.
+fn are_counts_kept(lim: Limits, heads: usize, positives: usize, nafs: usize) -> bool
+    ensures { λ r. ⌜ r ≡ keepsCounts lim heads positives nafs ⌝ }
+{
+    if lim.heads < heads {
+        return false;
+    }
+    if lim.positives < positives {
+        return false;
+    }
+    nafs <= lim.nafs
+}
+
+// The literals behind a rule's header, up to the first wrong one.
+fn read_literals(lim: Limits, t: &[u8], count: usize) -> Run
+    requires { ⌜ 7 + 5 * count ≤ length (now t) ⌝ }
+    ensures { λ r. ⌜ r ≡ runOf (literalsAt lim (now (t .entry)) 7 count) ⌝ }
+{
+    let mut at: usize = 7;
+    let mut left = count;
+    while 0 < left {
+        if !is_literal(lim, &t[at..]) {
+            return Run::Refused(Refusal {
+                reason: Reason::LiteralWrong,
+                place: at,
+            });
+        }
+        at += 5;
+        left -= 1;
+    }
+    Run::Right
+}
+
+// Whether the head's literals are atoms and negated atoms: no mark can be chosen.
+fn is_head_signed(t: &[u8], heads: usize) -> bool
+    requires { ⌜ 7 + 5 * heads ≤ length (now t) ⌝ }
+    ensures { λ r. ⌜ r ≡ signedKinds (now (t .entry)) 7 heads ⌝ }
+{
+    let mut at: usize = 7;
+    let mut left = heads;
+    while 0 < left {
+        if 1 < t[at] {
+            return false;
+        }
+        at += 5;
+        left -= 1;
+    }
+    true
+}
+
+// A rule's record whose header is right: its literals, then what a defeasible head may hold.
+fn read_body(lim: Limits, defeasible: bool, t: &[u8], heads: u8, positives: u8, nafs: u8) -> Step
+    ensures { λ r. ⌜ r ≡ stepOf (bodyAt lim defeasible (now (t .entry)) heads positives nafs) ⌝ }
+{
+    let count = heads as usize + positives as usize + nafs as usize;
+    let size = 7 + 5 * count;
+    if t.len() < size {
+        return refuse(Reason::LiteralsCut);
+    }
+    let run = read_literals(lim, t, count);
+    if let Run::Refused(x) = run {
+        return Step::Refused(x);
+    }
+    if defeasible {
+        if heads == 0 {
+            return refuse(Reason::HeadWrong);
+        }
+        if !is_head_signed(t, heads as usize) {
+            return refuse(Reason::HeadWrong);
+        }
+    }
+    Step::Rule(size)
+}
+
+// A rule's record, where `held` rules came before: the header's tests in document 01's order, then the body.
+fn read_rule(lim: Limits, defeasible: bool, t: &[u8], held: usize) -> Step
+    ensures { λ r. ⌜ r ≡ stepOf (ruleAt lim defeasible held (now (t .entry))) ⌝ }
+{
+    if t.len() < 7 {
+        return refuse(Reason::HeaderCut);
+    }
+    if lim.rules <= held {
+        return refuse(Reason::TooManyRules);
+    }
+    let tag = get_tag(t, 2);
+    if !is_tag_right(lim, defeasible, tag) {
+        return refuse(Reason::TagWrong);
+    }
+    let heads = t[4];
+    let positives = t[5];
+    let nafs = t[6];
+    if !are_counts_kept(lim, heads as usize, positives as usize, nafs as usize) {
+        return refuse(Reason::TooManyLiterals);
+    }
+    read_body(lim, defeasible, t, heads, positives, nafs)
+}
+
+// The end record, where `held` rules came before.
+fn read_end(t: &[u8], held: usize) -> Step
+    ensures { λ r. ⌜ r ≡ stepOf (endAt held (now (t .entry))) ⌝ }
+{
+    if t.len() < 4 {
+        return refuse(Reason::HeaderCut);
+    }
+    let counted = get_number(t, 2);
+    if counted as usize != held {
+        return refuse(Reason::EndWrong);
+    }
+    if t.len() != 4 {
+        return refuse(Reason::EndWrong);
+    }
+    Step::End
+}
+
+// One record, at the part's start, where `held` rules came before.
+pub fn read_record(lim: Limits, t: &[u8], held: usize) -> Step
+    ensures { λ r. ⌜ r ≡ stepOf (recordAt lim held (now (t .entry))) ⌝ }
+{
+    if t.len() < 2 {
+        return refuse(Reason::MarkCut);
+    }
+    let mark = mark_of(lim, t);
+    match mark {
+        Mark::RuleMark(defeasible) => read_rule(lim, defeasible, t, held),
+        Mark::EndMark => read_end(t, held),
+        Mark::NoMark => refuse(Reason::MarkWrong),
+    }
+}

@@ -1,0 +1,4 @@
+pub mod Extent
+pub mod Shown
+pub mod Bounds
+pub mod Record

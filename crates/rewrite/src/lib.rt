@@ -1,3 +1,0 @@
-// The translation of a source that was measured, written rule by rule.
-
-pub mod pass;

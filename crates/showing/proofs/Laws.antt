@@ -1,4 +1,0 @@
-pub mod Walk
-pub mod Shown
-pub mod Bounds
-pub mod Record

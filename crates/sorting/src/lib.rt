@@ -1,3 +1,0 @@
-// Keys sorted in their slice, each kept once.
-
-pub mod sort;

@@ -1,3 +1,0 @@
-pub mod Found
-pub mod Check
-pub mod Forms

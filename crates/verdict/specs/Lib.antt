@@ -1,3 +1,0 @@
-pub mod Check
-pub mod Meets
-pub mod Code

@@ -1,0 +1,42 @@
+//! The figures of document 01's forms, for Rust that tries them: the crate's and the command's tests, and the benchmark, have
+//! this file as a module of theirs. The crate and the command know no limit; the library does.
+
+#![allow(dead_code)] // No one of them has a use for every figure.
+
+pub struct Limits {
+    pub length: usize,
+    pub rules: usize,
+    pub heads: usize,
+    pub positives: usize,
+    pub nafs: usize,
+    pub defeasible: bool,
+    pub kinds: u8,
+    pub atoms: u16,
+    pub tags: u16,
+    pub numbers: u16,
+    /// Literals of a set.
+    pub set: usize,
+    /// Literals of a set that is checked.
+    pub checked: usize,
+}
+
+pub const SOURCE: Limits = Limits {
+    length: 63_236,
+    rules: 256,
+    heads: 16,
+    positives: 16,
+    nafs: 16,
+    defeasible: true,
+    kinds: 3,
+    atoms: 500,
+    tags: 200,
+    numbers: 256,
+    set: 1_000,
+    checked: 64,
+};
+
+pub const PLAIN: Limits =
+    Limits { length: 317_444, rules: 12_800, nafs: 17, defeasible: false, kinds: 6, set: 5_352, ..SOURCE };
+
+/// A translation has at most so many times its source's bytes.
+pub const TIMES_LONGER: usize = 13;
