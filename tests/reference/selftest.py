@@ -2,9 +2,8 @@
 
     python3 tests/reference/selftest.py
 
-The expected values stand here as the document gives them, but for the figures of the forms, which
-are the reference's: that they are the document's is said by tests/reliability, whose reference has
-its own and is compared at the limits too. Prints 'N checks, 0 failed'.
+The expected values stand here as the document gives them; the figures of the forms once, in
+`FIGURES`, by which the reference's own are checked. Prints 'N checks, 0 failed'.
 """
 
 import random
@@ -160,6 +159,25 @@ def kinds_of_literals(tally):
 
 def read_word(form, data):
     return (read_source if form is SOURCE else read_plain)(data).word
+
+
+# The document's rows of limits: bytes, rules, heads, positives, nafs, last kind, literals of a set.
+FIGURES = {
+    "source": (SOURCE, (63_236, 256, 16, 16, 16, 3, 1_000)),
+    "plain": (PLAIN, (317_444, 12_800, 16, 16, 17, 6, 5_352)),
+}
+
+
+def figures(tally):
+    """The reference's figures are the document's; the checks of limits go by the reference's."""
+    for name, (form, row) in FIGURES.items():
+        found = (form.length, form.rules, form.heads, form.positives, form.nafs, form.kinds[-1],
+                 form.set_literals)
+        tally.same(f"figures of the {name} form", found, row)
+    tally.same("last atom, tag, numbered rule", (LAST_ATOM, LAST_TAG, LAST_NUMBERED_RULE),
+               (500, 200, 256))
+    tally.same("literals of a set that is checked", CHECKED_LITERALS, 64)
+    tally.same("times as long", TIMES_LONGER, 13)
 
 
 def rule_limits(tally):
@@ -367,7 +385,7 @@ def reading_and_writing(tally, rng):
 def main():
     tally = Tally()
     for part in (marked_example_1, marked_example_2, marked_example_3, marked_examples_4_and_5,
-                 marked_examples_6_to_9, kinds_of_literals, rule_limits, count_limits,
+                 marked_examples_6_to_9, kinds_of_literals, figures, rule_limits, count_limits,
                  number_limits, length_limits, set_limits, show_limits):
         tally.run(part)
     for part in (one_to_one_match, brute_force_and_search, verdicts_and_answer_sets,
