@@ -34,7 +34,7 @@ fn heads(count: usize) -> Vec<u8> {
 }
 
 /// Seconds for one call: the best of many batches, each long enough for the clock.
-fn best(mut call: impl FnMut() -> u64) -> f64 {
+pub fn best(mut call: impl FnMut() -> u64) -> f64 {
     let started = Instant::now();
     black_box(call());
     let times = (20e-6 / started.elapsed().as_secs_f64().max(1e-9)).clamp(1.0, 1_000.0) as usize;

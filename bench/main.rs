@@ -1,5 +1,5 @@
-//! How fast each operation is, beside plain Rust on the same bytes and beside a copy of them, in one run; how time grows with a
-//! program; how long translations are. Both programs are built for release; the ratio is the proved code's speed over the
+//! How fast each operation is, beside plain Rust on the same bytes and beside a copy of them, in one run; beside a solver's own
+//! programs; how time grows with a program; how long translations are. Both programs are built for release; the ratio is the proved code's speed over the
 //! plain one's.
 
 mod checks;
@@ -10,11 +10,13 @@ mod growth;
 #[path = "../rust/limits.rs"]
 mod limits;
 mod output_sizes;
+mod plain_aspif;
 mod plain_check;
 mod plain_reader;
 mod plain_sets;
 mod plain_translator;
 mod sets;
+mod texts;
 mod writer;
 
 use drawn::{options, plain, source};
@@ -129,6 +131,7 @@ fn main() {
     translate_row("translate all", &source());
     translate_row("translate D:", &options());
     sets::rows();
+    texts::rows();
     checks::rows();
     growth::rows();
     output_sizes::rows();

@@ -59,7 +59,7 @@ pub fn read_set<'a>(limits: &Limits, most: usize, set: &'a [u8]) -> Result<Set<'
 pub struct Rule<'a> {
     pub defeasible: bool,
     pub tag: &'a [u8],
-    heads: &'a [u8],
+    pub heads: &'a [u8],
     pub positives: &'a [u8],
     pub nafs: &'a [u8],
 }

@@ -3,8 +3,8 @@
  * Every function answers one 64-bit word. A refusal is 2^63 + number * 2^32 + place, with document 01's number and the
  * byte offset of its place; all else is below 2^63. A pointer comes with its length and is never null; the slice that a
  * call writes to overlaps none of the others. The functions read and write nothing but the slices that they are lent and
- * their stack (220 KiB in the check of a plain program, 70 KiB in extend, 24 KiB in the check of a source, 1 KiB elsewhere),
- * keep no state and take no other memory.
+ * their stack (220 KiB in the check of a plain program, 80 KiB in aspif, 70 KiB in extend, 24 KiB in the check of a source,
+ * 1 KiB elsewhere), keep no state and take no other memory.
  */
 #ifndef ASPDA_H
 #define ASPDA_H
@@ -27,6 +27,14 @@ uint64_t aspda_read_plain(const uint8_t *p, size_t n);
 /* The translation of the source in p[0 .. n), written to out[0 .. m): the number of bytes written. It is at most thirteen
  * times n. A refusal leaves out as it was; bytes behind the result are left as they were. */
 uint64_t aspda_translate(const uint8_t *p, size_t n, uint8_t *out, size_t m);
+
+/* The plain program in p[0 .. n) as a text in aspif, the form that the solvers of the clingo family read, written to
+ * out[0 .. m): the number of bytes written, at most ASPDA_ASPIF_BOUND(n). A literal's number is its place among those that
+ * occur, ascending as byte strings, from 1; atoms and negated atoms are named p and n with the atom in decimal. No byte 0
+ * ends the text. A refusal leaves out as it was; bytes behind the result are left as they were. */
+uint64_t aspda_aspif(const uint8_t *p, size_t n, uint8_t *out, size_t m);
+
+#define ASPDA_ASPIF_BOUND(n) (2 * (size_t)(n) + 29012)
 
 /* A set s[0 .. k) is an A: record that has its slice to itself. Where a program comes with a set, a refusal of the
  * program's comes first. What a function writes goes to the start of out[0 .. m), and its answer is the number of bytes

@@ -1,5 +1,5 @@
-//! The figures of document 01's forms, for Rust that tries them: the crate's and the command's tests, and the benchmark, have
-//! this file as a module of theirs. The crate and the command know no limit; the library does.
+//! The figures of document 01's forms, for Rust that tries or tells them: the crate's tests, the command, whose messages name
+//! the limit that was passed, and the benchmark have this file as a module of theirs. What is refused the library decides.
 
 #![allow(dead_code)] // No one of them has a use for every figure.
 

@@ -2,9 +2,9 @@
 
     python3 tests/calls.py
 
-The program calls every entry point that Rattle code has on the marked examples. A line has the
-example, the function, and its answer: a number of rules, a place and a length, bytes (how many, and
-each), a verdict, or a refusal's number and place.
+The program calls every entry point that Rattle code has on the marked examples and on document 02's
+plain program with the fact 1. A line has the example, the function, and its answer: a number of
+rules, a place and a length, bytes (how many, and each), a verdict, or a refusal's number and place.
 """
 
 import sys
@@ -15,9 +15,9 @@ sys.path.insert(0, str(Path(__file__).resolve().parent / "reference"))
 
 import samples                                                                  # noqa: E402
 from aspda import (BROKEN, CLASH, REFUSED, SET, SET_HEADER, SMALLER, STRICT,    # noqa: E402
-                   atom, check_plain, check_source, defeated, encoded_literals, encoded_program,
-                   encoded_set, extend, negated, quotient_plain, quotient_source, read_plain,
-                   read_source, restrict, show_plain, show_source, translate)
+                   aspif, atom, check_plain, check_source, defeated, encoded_literals,
+                   encoded_program, encoded_set, extend, negated, quotient_plain, quotient_source,
+                   read_plain, read_source, restrict, show_plain, show_source, translate)
 
 ROOM = 512      # bytes lent where nothing else is said
 LOW = 0xFFFF_FFFF
@@ -87,6 +87,10 @@ def tell_translation(example, program, room=ROOM):
     return answer
 
 
+def tell_text(example, program, room=ROOM):
+    print(example, "export_plain", written(aspif(program, out=bytes(room))))
+
+
 def tell_set(example, program, proposed, room=ROOM):
     out = bytes(room)
     print(example, "set", counted(proposed))
@@ -99,9 +103,11 @@ def tell_set(example, program, proposed, room=ROOM):
 
 
 def tell_source(example, program):
-    """A source, and its translation as a program."""
+    """A source, and its translation as a program and as a text."""
     tell_program(example, program)
-    tell_program(f"{example} translated", result(tell_translation(example, program)))
+    plain = result(tell_translation(example, program))
+    tell_program(f"{example} translated", plain)
+    tell_text(f"{example} translated", plain)
 
 
 def tell_source_set(example, program, proposed):
@@ -118,12 +124,14 @@ def marked_example_1():
     tell_rule("M1", program, 2)
     tell_translation("M1 into 94 bytes", program, 94)
     tell_translation("M1 into 93 bytes", program, 93)
+    tell_text("M1", program)
     tell_source_set("M1 {1}", program, encoded_set([atom(1)]))
 
 
 def marked_example_2():
     tell_program("M2", b"")
     tell_translation("M2", b"")
+    tell_text("M2", b"")
     tell_set("M2 {}", b"", encoded_set([]))
 
 
@@ -152,6 +160,7 @@ def marked_example_6():
     falling = SET_HEADER.pack(SET, 2) + encoded_literals([two, one])
     tell_program("M6", program)
     tell_rule("M6", program, 2)
+    tell_text("M6", program)
     tell_set("M6 {1, 2}", program, proposed)
     tell_set("M6 {2, 1}", program, falling)
     tell_set("M6 no set", program, STRICT + bytes(2))
@@ -163,11 +172,22 @@ def marked_examples_7_to_9():
     tell_set("M7 {1, negated 1}", encoded_program([]), encoded_set([atom(1), negated(1)]))
     program = encoded_program(samples.M8)
     tell_program("M8", program)
+    tell_text("M8", program)
     tell_set("M8 {}", program, nothing)
     program = encoded_program(samples.M9)
     tell_program("M9", program)
+    tell_text("M9", program)
     tell_set("M9 {}", program, nothing)
     tell_set("M9 {1}", program, encoded_set([atom(1)]))
+
+
+def fact():
+    """Document 02, ask 1."""
+    program = encoded_program(samples.FACT)
+    tell_program("fact", program)
+    tell_text("fact", program)
+    tell_text("fact into 35 bytes", program, 35)
+    tell_text("fact into 34 bytes", program, 34)
 
 
 if __name__ == "__main__":
@@ -177,3 +197,4 @@ if __name__ == "__main__":
     marked_examples_4_and_5()
     marked_example_6()
     marked_examples_7_to_9()
+    fact()

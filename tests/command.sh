@@ -9,9 +9,9 @@ trap 'rm -rf "$work"' EXIT
 cp "$root"/examples/m[13].* "$work"
 cd "$work"
 
-# The forms' figures that are tried here: literals of a part of a source's rule, rules and bytes of each form's longest program,
-# the last atom and tag, literals of a set that is checked.
-most_literals=16 rules=256 bytes=63236 plain_rules=12800 plain_bytes=317444 last_atom=500 last_tag=200 checked=64
+# The forms' figures that are tried here: literals of a part of a source's rule, naf literals of a plain one, rules and bytes of
+# each form's longest program, the last atom and tag, literals of a set that is checked.
+most_literals=16 most_nafs=17 rules=256 bytes=63236 plain_rules=12800 plain_bytes=317444 last_atom=500 last_tag=200 checked=64
 
 runs=0
 declare -A reached=()
@@ -38,10 +38,13 @@ prints() { # STATUS TEXT ARGUMENTS: TEXT and a line's end on standard output (no
 
 gives() { prints 0 "$@"; } # TEXT ARGUMENTS
 
-complains() { # TEXT ARGUMENTS: status 1, and TEXT as the only message
+# The exit status where there is no result: 2 of commands that came after document 01's.
+failure=1
+
+complains() { # TEXT ARGUMENTS: status $failure, and TEXT as the only message
     local text=$1
     shift
-    run 1 "$@"
+    run $failure "$@"
     [ "$(cat .err)" = "aspda: $text" ] && [ ! -s .out ] || fail "aspda $*: \"$text\" expected"
 }
 
@@ -49,7 +52,7 @@ refuses() { # NUMBER PLACE WHERE ARGUMENTS: WHERE is the file or set, and in bra
     local number=$1 place=$2 file=${3%% (*} ending=
     case $3 in *' ('*) ending=" (${3#* (}" ;; esac
     shift 3
-    run 1 "$@"
+    run $failure "$@"
     local message="aspda: $file: refused with $number at byte $place: "
     [[ "$(cat .err)" =~ ^"$message"[a-z][^\(]*"$ending"$ ]] && [ ! -s .out ] ||
         fail "aspda $*: refusal $number at byte $place of $file$ending expected"
@@ -227,6 +230,88 @@ for number in {1..8} {10..13}; do
     [ "${reached[$number]:-}" ] || fail "refusal $number was not reached"
 done
 
+# A plain program as a text for a solver: to standard output, to a file of any name, from a file or standard input.
+echo '1.' >fact.txt
+gives $'asp 1 0 0\n1 0 1 1 0 0\n4 2 p1 1 1\n0' aspif fact.txt
+[ "$(wc -c <.out)" = 35 ] || fail "the fact's text has $(wc -c <.out) bytes, not 35"
+cp .out fact.aspif
+gives "" convert --plain fact.txt -o fact.plain
+gives "" aspif fact.plain -o made.aspif
+same made.aspif fact.aspif
+gives "" aspif fact.plain -o made.txt
+same made.txt fact.aspif
+run 0 aspif - -o - <fact.plain
+same .out fact.aspif
+printf 'E:\0\0' >none.plain
+gives $'asp 1 0 0\n0' aspif none.plain
+echo 'never. -2 or 1 or 1 if 2 and not rule-defeated(3). 2 if derived(7, -2).' >both.txt
+gives "asp 1 0 0
+1 0 0 0 0
+1 0 3 3 1 1 0 2 2 -5
+1 0 1 2 0 1 4
+1 0 0 0 2 2 3
+4 2 p1 1 1
+4 2 p2 1 2
+4 2 n2 1 3
+0" aspif both.txt
+for name in m1 m3; do
+    gives "" aspif $name.plain -o made.aspif
+    same made.aspif $name.aspif
+done
+run 0 translate m3.txt -o -
+same .out m3.plain
+"$aspda" translate - -o - <m3.aspda | "$aspda" aspif - >piped.aspif
+same piped.aspif m3.aspif
+[ "$(grep -c '^1 ' m3.aspif)" = 22 ] && [ "$(grep -c '^4 ' m3.aspif)" = 5 ] || fail "m3.aspif: $(cat m3.aspif)"
+gives "" aspif longest.plain -o longest.aspif
+[ "$(grep -c '^1 0 ' longest.aspif)" = $plain_rules ] || fail "longest.aspif has not $plain_rules rules"
+run 0 read - <m3.aspda
+[ "$(cat .out)" = "5 rules, 94 bytes" ] || fail "read -: $(cat .out)"
+complains 'standard output has the verdict; -o needs a file behind it' check m3.txt '{3, 4, 5}' -o -
+
+# Its refusals name the limit that is passed, and the exit status is 2, as for misuse.
+failure=2
+message() { # TEXT: it ends the message of the last run
+    [[ "$(cat .err)" == *"$1" ]] || fail "the message does not end in: $1"
+}
+refused_text() { # NUMBER PLACE FILE LIMIT: aspif refuses the file, and the message ends in the limit
+    run $failure aspif "$3" -o unwritten
+    [[ "$(cat .err)" == "aspda: $3: refused with $1 at byte $2: "[a-z]*"$4" ]] && [ ! -s .out ] ||
+        fail "aspif $3: refusal $1 at byte $2 and \"$4\" expected"
+}
+head -c $((plain_bytes + 1)) /dev/zero >long.plain
+refused_text 1 0 long.plain "; a plain program has at most $plain_bytes bytes"
+refused_text 2 0 empty " is cut short"
+refused_text 3 0 m3.aspda "; a plain program has strict rules and its end alone, a source is translated first"
+refused_text 3 0 m3.txt " (rule 1, line 4); a plain program has strict rules and its end alone, a source is translated first"
+counts="each with at most $most_literals head, $most_literals positive and $most_nafs naf literals"
+printf '1.\n2 if not %s.\n' "$(seq -s ' and not ' $((most_nafs + 1)))" >nafs.txt
+refused_text 4 12 nafs.txt " (rule 2, line 2); a plain program has at most $plain_rules rules, $counts"
+more=$((plain_rules + 1))
+for ((i = 0; i < more; i++)); do echo 'never.'; done >rules.txt
+refused_text 4 $((7 * plain_rules)) rules.txt " (rule $more, line $more); a plain program has at most $plain_rules rules, $counts"
+ranges="; atoms run from 1 to $last_atom, tags from 1 to $last_tag, rule numbers from 1 to $rules"
+refused_text 5 24 literal.txt " (rule 2, line 1)$ranges"
+printf 'S:\0\1\0\0\0E:\0\1' >tag.plain
+refused_text 6 0 tag.plain "; a strict rule has tag 0"
+refused_text 8 0 end ", or bytes follow it"
+[ ! -e unwritten ] || fail "a refusal wrote a file"
+run $failure aspif - <m3.aspda
+message "standard input: refused with 3 at byte 0: the mark is none of the form's records; a plain program has strict \
+rules and its end alone, a source is translated first"
+complains 'nowhere.plain: No such file or directory (os error 2)' aspif nowhere.plain
+complains 'nowhere/m3: No such file or directory (os error 2)' aspif m3.plain -o nowhere/m3
+complains 'PROGRAM expected, 0 given; usage: aspda aspif PROGRAM [-o FILE]' aspif
+complains 'PROGRAM expected, 2 given; usage: aspda aspif PROGRAM [-o FILE]' aspif m3.plain m3.plain
+complains '`--plain` has no place here; usage: aspda aspif PROGRAM [-o FILE]' aspif --plain m3.plain
+complains '-o needs a file behind it; usage: aspda aspif PROGRAM [-o FILE]' aspif m3.plain -o
+printf 1 >open.plain.txt
+complains 'open.plain.txt: line 1, column 2: `or`, `if` or `.` expected, and not the end of the text' aspif open.plain.txt
+status=0
+"$aspda" aspif m3.plain >/dev/full 2>.err || status=$?
+[ $status = 2 ] || fail "aspif to a full device: exit status $status, not 2"
+failure=1
+
 # What is no text, no file, no usage.
 printf '1 or 2.\n3' >open.txt
 complains 'open.txt: line 2, column 2: `or`, `if` or `.` expected, and not the end of the text' read open.txt
@@ -245,7 +330,7 @@ complains '-o OUT is missing; usage: aspda convert [--plain] IN -o OUT' convert 
 # Help: every command in the list and by itself.
 run 0 --help
 cp .out help
-for command in read show translate quotient extend restrict check convert; do
+for command in read show translate quotient extend restrict check convert aspif; do
     run 0 $command --help
     usage=$(head -n 1 .out)
     [[ $usage == "aspda $command "* ]] && grep -qF "$usage " help || fail "aspda $command --help"

@@ -1,5 +1,6 @@
 /* The library links from C by its header, and answers as document 01 says: M1's source has one rule, whose record is
- * the first 12 bytes, and translates into 94 bytes and 5 rules; an empty slice is refusal 2 at place 0. */
+ * the first 12 bytes, and translates into 94 bytes and 5 rules; an empty slice is refusal 2 at place 0. Document 02's
+ * plain program with the fact 1 is a text of four lines. */
 #include "../include/aspda.h"
 
 #include <stdio.h>
@@ -40,6 +41,16 @@ int main(void)
     written = aspda_check_plain(none, sizeof none, one, sizeof one, out, sizeof out);
     if (ASPDA_VERDICT(written) != ASPDA_SMALLER || ASPDA_VERDICT_VALUE(written) != sizeof empty) return 13;
     if (memcmp(out, empty, sizeof empty) != 0) return 14;
+    /* Document 02, ask 1. */
+    const uint8_t fact[] = {0x53, 0x3A, 0, 0, 1, 0, 0, 0, 0, 0, 0, 1, 0x45, 0x3A, 0, 1};
+    const char text[] = "asp 1 0 0\n1 0 1 1 0 0\n4 2 p1 1 1\n0\n";
+    uint8_t lines[ASPDA_ASPIF_BOUND(sizeof fact)];
+    lines[35] = 0xAA;
+    if (aspda_aspif(fact, sizeof fact, lines, sizeof lines) != 35 || lines[35] != 0xAA) return 15;
+    if (memcmp(lines, text, 35) != 0) return 16;
+    if (aspda_aspif(fact, sizeof fact, lines, 35) != 35) return 17;
+    refused = aspda_aspif(fact, sizeof fact, lines, 34);
+    if (ASPDA_REFUSAL_NUMBER(refused) != 9 || ASPDA_REFUSAL_PLACE(refused) != 0) return 18;
     puts("link.c: linked and answered");
     return 0;
 }

@@ -1,7 +1,8 @@
 #!/bin/sh
 # Everything that runs: functions that nothing reaches, the reference's self-test, the lines of crates/aspda_calls, the vectors, the
-# runner against the library, the short form of tests/reliability, the crate, the command, the worked examples. Needs python3, rustc,
-# cargo, a C and a C++ compiler, clingo, target/staticlib/libaspda.a (rt staticlib aspda) and target/bin/filter (rt check filter).
+# runner against the library, the short form of tests/reliability, the crate, the command, the worked examples, texts in aspif. Needs
+# python3, rustc, cargo, a C and a C++ compiler, clingo, target/staticlib/libaspda.a (rt staticlib aspda) and target/bin/filter
+# (rt check filter).
 
 set -eu
 cd "$(dirname "$0")/.."
@@ -24,7 +25,10 @@ say "functions that nothing reaches"
 python3 tests/reached.py
 
 # What calls the library runs beside the rest: each by itself leaves a core idle. What it says is shown at the end.
-{ LIBRARY=$LIBRARY bash tests/wrappers.sh && sh tests/endtoend/run.sh; } >"$build/beside" 2>&1 &
+{
+    LIBRARY=$LIBRARY bash tests/wrappers.sh && sh tests/endtoend/run.sh &&
+        python3 tests/solver/aspif.py --aspif "${ASPDA:-target/rust/release/aspda}"
+} >"$build/beside" 2>&1 &
 beside=$!
 
 say "self-test of the reference"
@@ -68,7 +72,7 @@ say "linking from C"
 cc -std=c11 -Wall -Wextra -Werror -o "$build/link" tests/link.c -L "$LIBRARY" -laspda
 "$build/link"
 
-say "the Rust crate, the command, the C example; worked examples from text to a solver and back"
+say "the Rust crate, the command, the C example; worked examples from text to a solver and back; texts in aspif by clasp"
 status=0
 wait "$beside" || status=$?
 beside=

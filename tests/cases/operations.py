@@ -43,6 +43,7 @@ def listed():
         operation("translate", aspda.SOURCE, True, False, True, source + (9,)),
         operation("extend", aspda.SOURCE, True, True, True, source + SET_AND_OUTPUT),
         operation("restrict", aspda.PLAIN, False, True, True, SET_AND_OUTPUT),
+        operation("aspif", aspda.PLAIN, True, False, True, READING[aspda.PLAIN] + (9,)),
         operation("filter", aspda.SOURCE, True, False, False, source + (9,)),
     ]
     return [row._replace(number=number) for number, row in enumerate(rows)]

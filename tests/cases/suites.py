@@ -10,9 +10,10 @@ from functools import lru_cache
 from itertools import islice, product
 
 import samples
-from aspda import (ATOMS, CHECKED_LITERALS, END_RECORD, FILTER_OUTPUT, LAST_ATOM, LAST_TAG, LITERAL,
-                   PLAIN, RULE_HEADER, SOURCE, TIMES_LONGER, atom, defeasible, defeated, negated,
-                   strict, translation)
+from aspda import (ASPIF_BEYOND, ASPIF_TIMES_LONGER, ATOMS, CHECKED_LITERALS, END_RECORD,
+                   FILTER_OUTPUT, LAST_ATOM, LAST_NUMBERED_RULE, LAST_TAG, LITERAL, PLAIN,
+                   RULE_HEADER, SOURCE, TIMES_LONGER, Literal, atom, defeasible, defeated, derived,
+                   negated, rule_defeated, strict, translation)
 from cases import faults, literal_sets, programs, verdicts
 from cases.literal_sets import literal_set
 from cases.operations import ACCEPTED, Case, call
@@ -28,6 +29,7 @@ LARGEST_RESULT = PLAIN.length
 WIDEST = 66 * SOURCE.heads + 5 * (SOURCE.positives + SOURCE.nafs) + 24
 WIDEST_THAT_FIT = (FILTER_OUTPUT - END_RECORD.size) // WIDEST
 LARGE_RESULT = 10_000   # such results take the reference long: they get fewer buffers
+WELL_BEYOND = 4_096     # bytes more than the bound of a text
 
 
 def default_cases(operation, seed):
@@ -53,8 +55,15 @@ def ample(case):
     """A case with room for whatever its operation writes."""
     if not case.operation.writes:
         return case
+    if case.operation.group == "aspif":
+        return case._replace(room=aspif_bound(case))
     most = TIMES_LONGER * len(case.program) + len(case.literals) + 8
     return case._replace(room=min(most, LARGEST_RESULT))
+
+
+def aspif_bound(case):
+    """The room that always suffices for the text of the case's program."""
+    return ASPIF_TIMES_LONGER * len(case.program) + ASPIF_BEYOND
 
 
 def needed_room(case):
@@ -75,6 +84,11 @@ def with_rooms(case):
         rooms |= {"longer": needed + 7, "far-longer": 2 * needed + 300, "none": 0}
     else:
         rooms |= {"longer": needed + 1}
+    if case.operation.group == "aspif":
+        # From the bound on no length has to be found out before writing: code may part there, or
+        # somewhat later.
+        bound = aspif_bound(case)
+        rooms |= {"bound": bound, "below-bound": bound - 1, "beyond-bound": bound + WELL_BEYOND}
     for name, room in rooms.items():
         yield case._replace(name=f"{case.name}-room-{name}", room=room,
                             stated=ACCEPTED if room >= needed else (9, 0))
@@ -296,6 +310,98 @@ def translations(operation, rng):
         yield from with_rooms(Case(name, operation, programs.program(rules)))
 
 
+def texts(operation, rng):
+    """Texts in aspif: every kind of literal in every part, clashes, repeats, numbers of each length."""
+    stock = {"fact": samples.FACT, "empty": [], "m8": samples.M8, "mixed": programs.mixed_plain(),
+             "wide": programs.wide_rule(PLAIN)}
+    for name in ("m1", "m3", "m4", "m5", "m6"):
+        stock[f"{name}-translated"] = translation(getattr(samples, name.upper()))
+    stock |= dict(clashes()) | dict(repeats()) | dict(parts()) | dict(numbered())
+    for name, rules in stock.items():
+        yield from with_rooms(Case(name, operation, programs.program(rules)))
+    for name, program in large_texts():
+        yield from with_rooms(Case(name, operation, program))
+
+
+def clashes():
+    """An atom and its negation in each two parts, in one rule and in two; marks, which never clash."""
+    for number in (1, 64, LAST_ATOM):
+        for one, other in product(range(3), repeat=2):
+            both = [[], [], []], [[], [], []], [[], [], []]
+            for rule, part, literal in ((0, one, negated(number)), (0, other, atom(number)),
+                                        (1, one, atom(number)), (2, other, negated(number))):
+                both[rule][part].append(literal)
+            name = f"clash-of-{number}-parts-{one}-and-{other}"
+            yield name, [strict(*both[0])]
+            yield f"{name}-apart", [strict(*both[1]), strict(*both[2])]
+    yield "one-clash-of-two-atoms", [strict([atom(3), negated(4)], [atom(4)], [negated(5)])]
+    yield "all-clash", [strict([atom(number)], [], [negated(number)]) for number in reversed(ATOMS)]
+    for make in (defeated, derived):
+        yield f"{make.__name__}-both-ways", [strict([make(1, atom(1))], [make(1, negated(1))])]
+    yield "rule-and-atom-of-one-number", [strict([rule_defeated(7)], [atom(7)]),
+                                          strict([], [], [defeated(7, negated(7))])]
+
+
+def repeats():
+    """Literals that occur more than once: in a part, in two parts, in many rules."""
+    one, two = atom(1), negated(2)
+    yield "repeated-heads", [strict([one] * PLAIN.heads)]
+    yield "repeated-positives", [strict([], [two] * PLAIN.positives)]
+    yield "repeated-nafs", [strict([], [], [one] * PLAIN.nafs)]
+    yield "one-literal-everywhere", [strict([one] * 2, [one] * 3, [one] * 4)] * 3
+    yield "two-literals-in-turn", [strict([one, two, one], [two, one, two], [one, one, two])] * 2
+
+
+def parts():
+    """Rules with one part alone, counts of one and two figures, each kind alone."""
+    few = [rule_defeated(LAST_NUMBERED_RULE), derived(2, negated(9)), atom(LAST_ATOM), negated(1)]
+    for place, name in enumerate(("heads", "positives", "nafs")):
+        rule = [[], [], []]
+        rule[place] = few
+        yield f"{name}-alone", [strict(*rule)]
+    for heads, positives, nafs in ((9, 9, 0), (10, 10, 0), (9, 5, 4), (10, 5, 5), (16, 16, 17),
+                                   (0, 16, 17), (0, 0, 9), (0, 0, 10), (1, 9, 0), (1, 0, 17)):
+        stock = [negated(number) for number in ATOMS[:heads + positives + nafs]]
+        yield (f"counts-{heads}-{positives}-{nafs}",
+               [strict(stock[:heads], stock[heads:heads + positives], stock[heads + positives:])])
+    for kind in PLAIN.kinds:
+        literals = list(islice(samples.all_literals((kind,)), 30))
+        yield f"kind-{kind}-alone", samples.dealt(PLAIN, literals)
+    yield "marks-alone", samples.dealt(PLAIN, list(samples.all_literals((6,))))
+    # Where a table of all literals may have its seams: first and last numbers and tags, multiples of
+    # 64 and those beside them.
+    numbers = (1, 2, 62, 63, 64, 65, 127, 128, 191, 192, 255, 256, 257, 447, 448, 449, LAST_ATOM)
+    seams = [Literal(kind, tag, number) for kind in PLAIN.kinds
+             for tag in ((1, 2, LAST_TAG - 1, LAST_TAG) if 2 <= kind <= 5 else (0,))
+             for number in numbers if kind < 6 or number <= LAST_NUMBERED_RULE]
+    yield "seams", samples.dealt(PLAIN, seams)
+    yield "seams-backwards", samples.dealt(PLAIN, seams[::-1])
+    for literal in seams[::5]:
+        yield f"alone-{'-'.join(map(str, literal))}", [strict([literal])]
+
+
+def numbered():
+    """As many literals as make the last number one of so many figures, and names of each length."""
+    for count in (9, 10, 11, 99, 100, 101, 999, 1_000, 1_001, 9_999, 10_000, 10_001):
+        marks = list(islice(samples.all_literals((2, 3)), count))
+        yield f"{count}-marks", samples.dealt(PLAIN, marks)
+        signed = list(islice(samples.all_literals((0, 1, 2)), count))
+        yield f"{count}-literals", samples.dealt(PLAIN, signed[::-1])
+    for number in (9, 10, 99, 100):
+        yield f"names-to-{number}", samples.dealt(PLAIN, [*map(negated, ATOMS[:number]), atom(number)])
+
+
+def large_texts():
+    """As many rules, bytes and literals as a plain program has."""
+    yield from programs.longest(PLAIN).items()
+    most = PLAIN.rules
+    yield "most-rules-empty", programs.program([strict()] * most)
+    yield "most-rules-facts", programs.program([strict([atom(1 + number % LAST_ATOM)])
+                                                for number in range(most)])
+    yield "most-literals", programs.program(samples.most_literals(PLAIN))
+    yield "most-literals-backwards", programs.program(samples.most_literals(PLAIN)[::-1])
+
+
 def filtered(operation, rng):
     """Around the size of the filter's own buffer, and beyond its input buffer."""
     for name, rules in (("m1", samples.M1), ("m3", samples.M3), ("empty", [])):
@@ -450,4 +556,4 @@ def checks(operation, rng):
 
 PARTICULAR = {"read": nothing_more, "show": shown_rules, "translate": translations,
               "filter": filtered, "quotient": quotients, "extend": extensions,
-              "restrict": restrictions, "check": checks}
+              "restrict": restrictions, "check": checks, "aspif": texts}

@@ -37,6 +37,22 @@ class Command:
                                f"{run.stderr.strip() or run.stdout.strip()}")
         return run.stdout
 
+    def piped(self, first, second, solver):
+        """What a solver prints at the end of a pipe of two calls."""
+        self.calls += 2
+        running = subprocess.PIPE
+        with (subprocess.Popen([self.program, *map(str, first)], stdout=running) as one,
+              subprocess.Popen([self.program, *map(str, second)], stdin=one.stdout,
+                               stdout=running) as two,
+              subprocess.Popen(list(map(str, solver)), stdin=two.stdout, stdout=running,
+                               text=True) as last):
+            one.stdout.close()
+            two.stdout.close()
+            printed = last.communicate(timeout=LONGEST_RUN)[0]
+        if one.returncode != 0 or two.returncode != 0:
+            raise CommandError(f"a pipe's calls ended with {one.returncode} and {two.returncode}")
+        return printed
+
     def written(self, name, *arguments):
         """The file of this name that a call writes with -o, and its bytes."""
         path = self.folder / name

@@ -3,10 +3,11 @@
     python3 tests/endtoend/run.py [ASPDA]       the command; target/rust/release/aspda if not given
 
 Of M3 and of each kit: the text is converted to bytes and translated; clingo finds the answer sets
-of the translation; the command says yes to each, restricts it, says yes to the restriction on the
-source, and extends it to what clingo gave. The restrictions are the sets of NAME.answers, which
-come from a search on the source that knows no translation. Sets near an answer set, and some far
-from one, get the verdict that the reference gives.
+of the translation, and clasp those of the text in aspif that the command makes of it; the command
+says yes to each, restricts it, says yes to the restriction on the source, and extends it to what the
+solver gave. The restrictions are the sets of NAME.answers, which come from a search on the source
+that knows no translation. The pipe of README.md, from the text to clasp in one line, shows the same
+atoms. Sets near an answer set, and some far from one, get the verdict that the reference gives.
 
 Beside it the old product: how many rules its translation has, a plain rule for each non-empty
 subset of a rule's options; whether it gives up; and, where it does not, how many answer sets it
@@ -33,8 +34,9 @@ sys.path[:0] = [str(TESTS / "reference"), str(TESTS / "solver")]
 import answers                                                                  # noqa: E402
 import solve                                                                    # noqa: E402
 import traps                                                                    # noqa: E402
-from aspda import (CHECKED_LITERALS, PLAIN, SOURCE, YES, encoded_program,       # noqa: E402
-                   extension, read_rules, read_set, translation, verdict)
+from aspda import (CHECKED_LITERALS, PLAIN, SOURCE, YES, aspif_name, aspif_text,     # noqa: E402
+                   encoded_program, extension, numbering, opposite, read_rules, read_set,
+                   translation, verdict)
 from command import Command, CommandError                                       # noqa: E402
 from samples import literals_of                                                 # noqa: E402
 from text_form import Program, TextError, read_program, read_sets, set_text     # noqa: E402
@@ -126,8 +128,7 @@ def restricted(command, kit, files, found):
     return frozenset(read_set(PLAIN, data, PLAIN.set_literals))
 
 
-def compare_with_solver(command, kit, files):
-    found = solve.answer_sets(files.plain_bytes)
+def compare_with_solver(command, kit, files, found):
     restrictions = [restricted(command, kit, files, literals) for literals in found]
     expect(len(set(restrictions)) == len(restrictions), "two of the solver's sets restrict to one")
     for literals in set(restrictions) - set(kit.answers):
@@ -135,6 +136,27 @@ def compare_with_solver(command, kit, files):
     for literals in set(kit.answers) - set(restrictions):
         raise Difference(f"only {kit.name}.answers has {kit.words(literals)}")
     expect(len(kit.answers) == len(restrictions), f"a set is twice in {kit.name}.answers")
+
+
+def clasp_answer_sets(command, files):
+    """The answer sets of the translation's text in aspif, by clasp; and the text's length."""
+    rules = read_rules(PLAIN, files.plain_bytes)
+    path, data = command.written("translation.aspif", "aspif", files.plain)
+    expect(data == aspif_text(rules), "the text in aspif")
+    text = data.decode("ascii")
+    expect(command.printed("aspif", files.plain) == text, "the text in aspif on standard output")
+    # Marks have no name in it, so clasp would not show them.
+    found = solve.aspif_answer_sets(solve.fully_named(text, numbering(rules)))
+    return {frozenset(map(solve.literal_of, names)) for names in found}, len(data)
+
+
+def compare_pipe(command, kit):
+    """From the text to clasp in one line: the atoms, negated ones too, of each answer set."""
+    shown = command.piped(["translate", kit.path, "-o", "-"], ["aspif", "-"],
+                          ["clingo", "--mode=clasp", *solve.SOUND_OPTIONS, "0", "--outf=2"])
+    found = {frozenset(names) for names in solve.witnesses(shown)}
+    expect(found == {frozenset(aspif_name(literal) for literal in literals if opposite(literal))
+                     for literals in kit.answers}, "the atoms that the pipe to clasp shows")
 
 
 def compare_in_text(command, kit):
@@ -219,7 +241,7 @@ def compare_rule_numbers(kit, files):
 # All kits
 
 
-LINE = "{:<10}{:<20}{:>6}{:>13}{:>7}{:>11}  {:<33}{:>11}  {}"
+LINE = "{:<10}{:<20}{:>6}{:>13}{:>7}{:>7}{:>11}  {:<33}{:>11}  {}"
 
 
 def options_words(options):
@@ -230,13 +252,16 @@ def options_words(options):
 def run_kit(command, kit, tally):
     files = written_files(command, kit)
     compare_listings(command, kit, files)
-    compare_with_solver(command, kit, files)
+    compare_with_solver(command, kit, files, solve.answer_sets(files.plain_bytes))
+    found, text_length = clasp_answer_sets(command, files)
+    compare_with_solver(command, kit, files, found)
+    compare_pipe(command, kit)
     compare_in_text(command, kit)
     compare_verdicts(command, kit, files, tally)
     ours = compare_rule_numbers(kit, files)
     old_rules, old_words = old_product(kit)
     print(LINE.format(kit.name, options_words(kit.options()), f"{len(files.source_bytes):,}",
-                      f"{len(files.plain_bytes):,}", ours, f"{old_rules:,}", old_words,
+                      f"{len(files.plain_bytes):,}", ours, f"{text_length:,}", f"{old_rules:,}", old_words,
                       len(kit.answers), "same"), flush=True)
 
 
@@ -251,7 +276,7 @@ def compare_readme(kits):
 def run_all(command, kits):
     tally = Counter()
     failed = 0
-    print(LINE.format("", "options", "source", "translation", "rules", "old rules",
+    print(LINE.format("", "options", "source", "translation", "rules", "aspif", "old rules",
                       "old product", "answer sets", "").rstrip())
     for kit in kits:
         try:

@@ -1,12 +1,13 @@
 """The reference: every operation on defeasible answer-set programs, in plain Python.
 
-Written from document 01 ("Kit programs with defaults and their plain translation") and from nothing
-else, so that a mistake in the library's own definitions shows as a difference. It is plain before it
-is fast: each definition follows the document's sentence.
+Written from document 01 ("Kit programs with defaults and their plain translation"), for the export
+to aspif from document 02's ask 1, and from nothing else, so that a mistake in the library's own
+definitions shows as a difference. It is plain before it is fast: each definition follows the
+document's sentence.
 
 In order: limits; refusals; literals and rules; bytes to programs and sets; programs and sets to
-bytes; meaning (quotient, model, answer set); translation, extension, restriction; the first
-smaller model; the operations as words; the filter.
+bytes; meaning (quotient, model, answer set); translation, extension, restriction; the text in aspif;
+the first smaller model; the operations as words; the filter.
 
 Run as a program it is the filter: python3 aspda.py < source > plain
 """
@@ -49,6 +50,8 @@ NUMBERED_RULES = range(1, LAST_NUMBERED_RULE + 1)
 CHECKED_LITERALS = 64
 FILTER_OUTPUT = 65_536
 TIMES_LONGER = 13       # a translation has at most so many times its source's bytes
+# A text in aspif has at most so many times its program's bytes, and so many bytes more.
+ASPIF_TIMES_LONGER, ASPIF_BEYOND = 2, 29_012
 
 RULE_HEADER = Struct(">2sHBBB")     # mark, tag, head count, positive count, naf count
 END_RECORD = Struct(">2sH")         # mark, number of rules
@@ -411,6 +414,50 @@ def restriction(literals):
 
 
 # ---------------------------------------------------------------------------------------------
+# The text in aspif
+
+
+def numbering(rules):
+    """The number of each literal that occurs: from 1, in ascending byte order."""
+    occurring = {literal for rule in rules
+                 for part in (rule.heads, rule.positives, rule.nafs) for literal in part}
+    return {literal: number for number, literal in enumerate(sorted(occurring), start=1)}
+
+
+def aspif_rule(heads, body):
+    """The statement of a rule over numbers; a naf literal's is negative."""
+    return " ".join(map(str, (1, 0, len(heads), *heads, 0, len(body), *body)))
+
+
+def aspif_name(literal):
+    """The name of an atom or a negated atom."""
+    return f"{'p' if literal.kind == KIND_ATOM else 'n'}{literal.atom}"
+
+
+def aspif_statements(rules):
+    """The text's lines: its head, the rules, the constraints, the names, its end."""
+    numbers = numbering(rules)
+    yield "asp 1 0 0"
+    for rule in rules:
+        positives = [numbers[literal] for literal in rule.positives]
+        nafs = [-numbers[literal] for literal in rule.nafs]
+        yield aspif_rule([numbers[literal] for literal in rule.heads], positives + nafs)
+    for number in ATOMS:
+        both = atom(number), negated(number)
+        if all(literal in numbers for literal in both):
+            yield aspif_rule([], sorted(numbers[literal] for literal in both))
+    for literal, number in numbers.items():
+        if literal.kind in (KIND_ATOM, KIND_NEGATED):
+            name = aspif_name(literal)
+            yield f"4 {len(name)} {name} 1 {number}"
+    yield "0"
+
+
+def aspif_text(rules):
+    return "".join(f"{statement}\n" for statement in aspif_statements(rules)).encode("ascii")
+
+
+# ---------------------------------------------------------------------------------------------
 # The first smaller model
 
 
@@ -608,6 +655,11 @@ def extend(program, proposed, room):
 def restrict(proposed, room):
     literals = read_set(PLAIN, proposed, PLAIN.set_literals)
     return result(encoded_set(restriction(literals)), room)
+
+
+@answered
+def aspif(program, room):
+    return result(aspif_text(read_rules(PLAIN, program)), room)
 
 
 @answered

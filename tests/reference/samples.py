@@ -6,8 +6,8 @@ atoms and tags themselves lie anywhere in their ranges.
 
 from typing import NamedTuple
 
-from aspda import (ATOMS, TAGS, NUMBERED_RULES, Literal, atom, defeasible, defeated, derived,
-                   negated, rule_defeated, strict)
+from aspda import (ATOMS, END_RECORD, LITERAL, NUMBERED_RULES, RULE_HEADER, TAGS, Literal, atom,
+                   defeasible, defeated, derived, negated, rule_defeated, strict)
 
 
 # The programs of M1 to M9; the sets are in the self-test.
@@ -24,6 +24,8 @@ M5 = [defeasible(7, [atom(1)]), defeasible(7, [atom(2)]), strict([defeated(7, at
 M6 = [strict([atom(1), atom(2)])]
 M8 = [strict()]
 M9 = []
+# Document 02, ask 1: the plain program whose text it prints.
+FACT = [strict([atom(1)])]
 
 
 class Shape(NamedTuple):
@@ -126,6 +128,27 @@ def literals_of(rules):
     for rule in rules:
         found.update(rule.heads, rule.positives, rule.nafs)
     return found
+
+
+def most_literals(form):
+    """Rules with as many different literals as a program of the form's length can have.
+
+    They are spread over all literals of the form, the first and the last among them.
+    """
+    widest = form.heads + form.positives + form.nafs
+    rules, left = divmod(form.length - END_RECORD.size, RULE_HEADER.size + LITERAL.size * widest)
+    count = rules * widest + max(0, left - RULE_HEADER.size) // LITERAL.size
+    stock = list(all_literals(form.kinds))
+    chosen = [stock[place * (len(stock) - 1) // (count - 1)] for place in range(count)]
+    return dealt(form, chosen)
+
+
+def dealt(form, literals):
+    """Rules that have these literals in order, each as many as its parts take."""
+    body = form.heads + form.positives
+    widest = body + form.nafs
+    parts = [literals[first:first + widest] for first in range(0, len(literals), widest)]
+    return [strict(part[:form.heads], part[form.heads:body], part[body:]) for part in parts]
 
 
 def random_subset(rng, literals, most):

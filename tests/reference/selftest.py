@@ -12,18 +12,21 @@ import sys
 sys.dont_write_bytecode = True
 
 import samples
-from aspda import (ATOMS, BROKEN, BRUTE_FORCE_LITERALS, CHECKED_LITERALS, CLASH, LAST_ATOM,
-                   LAST_NUMBERED_RULE, LAST_TAG, PLAIN, REFUSED, SMALLER, SOURCE, TIMES_LONGER, YES,
-                   answer_sets, atom, check_plain, check_source, defeasible, defeated, derived,
+from aspda import (ASPIF_BEYOND, ASPIF_TIMES_LONGER, ATOMS, BROKEN, BRUTE_FORCE_LITERALS,
+                   CHECKED_LITERALS, CLASH, LAST_ATOM, LAST_NUMBERED_RULE, LAST_TAG, PLAIN, REFUSED,
+                   SMALLER, SOURCE, TIMES_LONGER, YES, Remainder, answer_sets, aspif, aspif_text,
+                   atom, check_plain, check_source, defeasible, defeated, derived,
                    encoded_literals, encoded_program, encoded_set, extend, extension, filter,
                    first_smaller_by_brute_force, first_smaller_by_search, is_answer_set,
-                   is_interpretation, negated, quotient, quotient_plain, quotient_source,
-                   read_plain, read_rules, read_source, restrict, restriction, rule_defeated,
-                   show_plain, show_source, strict, translate, translation)
+                   is_interpretation, is_model, negated, numbering, proper_subsets, quotient,
+                   quotient_plain, quotient_source, read_plain, read_rules, read_source, restrict,
+                   restriction, rule_defeated, show_plain, show_source, strict, subsets, translate,
+                   translation)
 
 SEED = 20_240_601
 MATCHED_SOURCES = 400
 COMPARED_SEARCHES = 400
+MATCHED_TEXTS = 200
 
 
 class Tally:
@@ -154,6 +157,64 @@ def kinds_of_literals(tally):
 
 
 # ---------------------------------------------------------------------------------------------
+# The text in aspif
+
+# Each as its document, or the reading decided of it, has it: rules, and the lines of their text.
+TEXTS = {
+    "the fact 1": (samples.FACT, "asp 1 0 0|1 0 1 1 0 0|4 2 p1 1 1|0"),
+    "no rules": ([], "asp 1 0 0|0"),
+    "no head, no body": (samples.M8, "asp 1 0 0|1 0 0 0 0|0"),
+    "numbers by bytes, not by occurrence; in bodies alone": (
+        [strict([negated(2)], [rule_defeated(3)], [atom(500)]), strict([], [defeated(1, atom(1))])],
+        "asp 1 0 0|1 0 1 2 0 2 4 -1|1 0 0 0 1 3|4 4 p500 1 1|4 2 n2 1 2|0"),
+    "repeated": (
+        [strict([atom(7), atom(7)], [atom(3), atom(3)], [atom(7), atom(7), atom(7)])],
+        "asp 1 0 0|1 0 2 2 2 0 5 1 1 -2 -2 -2|4 2 p3 1 1|4 2 p7 1 2|0"),
+    "both ways: in a head, positive, naf": (
+        [strict([negated(9)]), strict([], [atom(9)]), strict([], [], [atom(2), negated(2)])],
+        "asp 1 0 0|1 0 1 4 0 0|1 0 0 0 1 2|1 0 0 0 2 -1 -3|1 0 0 0 2 1 3|1 0 0 0 2 2 4"
+        "|4 2 p2 1 1|4 2 p9 1 2|4 2 n2 1 3|4 2 n9 1 4|0"),
+    "marks alone make no pair and have no name": (
+        [strict([defeated(1, atom(1)), defeated(1, negated(1))],
+                [derived(1, atom(1)), derived(1, negated(1))], [rule_defeated(1)])],
+        "asp 1 0 0|1 0 2 1 2 0 3 3 4 -5|0"),
+}
+
+
+def texts_in_aspif(tally):
+    for name, (rules, lines) in TEXTS.items():
+        text = (lines.replace("|", "\n") + "\n").encode("ascii")
+        for room in (len(text), len(text) + 1, 3 * len(text)):
+            lent = pattern(room)
+            tally.same(f"aspif, {name}, into {room} bytes",
+                       aspif(encoded_program(rules), out=lent),
+                       (len(text), text + lent[len(text):]))
+        for room in (len(text) - 1, 0):
+            lent = pattern(room)
+            tally.same(f"aspif, {name}, into {room} bytes",
+                       aspif(encoded_program(rules), out=lent), (refused(9, 0), lent))
+    tally.same("length of the fact's text", aspif(encoded_program(samples.FACT), out=bytes(99)).word,
+               35)
+    tally.same("length of the empty program's text", aspif(encoded_program([]), out=bytes(99)).word,
+               12)
+    # Reading refuses first, whatever the room.
+    tally.same("aspif of a source", aspif(M1_SOURCE, out=b"").word, refused(3, 0))
+    tally.same("aspif of nothing", aspif(b"", out=b"").word, refused(2, 0))
+
+
+def bound_of_texts(tally):
+    """Long programs, and short ones with long texts, stay within the bound."""
+    signed = [*map(atom, ATOMS), *map(negated, ATOMS)]
+    stock = {"no literals": [strict()] * PLAIN.rules, "most literals": samples.most_literals(PLAIN),
+             "all atoms": [strict(signed[first:first + 16]) for first in range(0, 1_000, 16)],
+             "last literals": [strict([], [], [rule_defeated(256)] * 17)]}
+    for name, rules in stock.items():
+        program = encoded_program(rules)
+        word = aspif(program, out=bytes(ASPIF_TIMES_LONGER * len(program) + ASPIF_BEYOND)).word
+        tally.same(f"aspif of {name} within the bound", word < REFUSED, True)
+
+
+# ---------------------------------------------------------------------------------------------
 # Limits
 
 
@@ -178,6 +239,7 @@ def figures(tally):
                (500, 200, 256))
     tally.same("literals of a set that is checked", CHECKED_LITERALS, 64)
     tally.same("times as long", TIMES_LONGER, 13)
+    tally.same("bound of a text", (ASPIF_TIMES_LONGER, ASPIF_BEYOND), (2, 29_012))
 
 
 def rule_limits(tally):
@@ -370,6 +432,59 @@ def verdicts_and_answer_sets(tally, rng):
                        not is_interpretation(proposed))
 
 
+def rules_of_text(text):
+    """The rules that a text in aspif says, over numbers: heads, positives, nafs. Names apart."""
+    lines = text.decode("ascii").split("\n")
+    assert lines[0] == "asp 1 0 0" and lines[-2:] == ["0", ""]
+    rules, names = [], {}
+    for line in lines[1:-2]:
+        kind, *fields = line.split(" ")
+        if kind == "1":
+            choice, heads, *rest = map(int, fields)
+            weights, body = rest[heads:heads + 2]
+            literals = rest[heads + 2:]
+            assert (choice, weights, len(literals)) == (0, 0, body)
+            rules.append((rest[:heads], [one for one in literals if one > 0],
+                          [-one for one in literals if one < 0]))
+        else:
+            length, name, condition, number = fields
+            assert (kind, condition, int(length)) == ("4", "1", len(name))
+            names[int(number)] = name
+    return rules, names
+
+
+def answer_sets_of_text(rules, numbers):
+    """Minimal models of the reduct, by trying all sets: here no two numbers clash."""
+    found = []
+    for chosen in subsets(numbers):
+        reduct = [Remainder(0, heads, positives) for heads, positives, nafs in rules
+                  if not chosen.intersection(nafs)]
+        if is_model(reduct, chosen) and not any(is_model(reduct, smaller)
+                                                for smaller in proper_subsets(chosen)):
+            found.append(chosen)
+    return found
+
+
+def texts_and_programs(tally, rng):
+    """The answer sets of a text are those of its program, number for number."""
+    several = 0
+    for _ in range(MATCHED_TEXTS):
+        while True:
+            rules = samples.random_plain(rng, random_shape(rng))
+            literals = samples.literals_of(rules)
+            if len(literals) <= 9:
+                break
+        numbers = numbering(rules)
+        said, names = rules_of_text(aspif_text(rules))
+        expected = [frozenset(map(numbers.get, found)) for found in answer_sets(rules, literals)]
+        found = answer_sets_of_text(said, numbers.values())
+        several += len(found) > 1
+        tally.same(f"text {rules}", sorted(map(sorted, found)), sorted(map(sorted, expected)))
+        named = {number for literal, number in numbers.items() if literal.kind < 2}
+        tally.same(f"names {rules}", set(names), named)
+    tally.same("some texts with several answer sets", several > 0, True)
+
+
 def reading_and_writing(tally, rng):
     """Reading gives back what was encoded, and each proper prefix is refused as cut."""
     for run in range(60):
@@ -385,11 +500,11 @@ def reading_and_writing(tally, rng):
 def main():
     tally = Tally()
     for part in (marked_example_1, marked_example_2, marked_example_3, marked_examples_4_and_5,
-                 marked_examples_6_to_9, kinds_of_literals, figures, rule_limits, count_limits,
-                 number_limits, length_limits, set_limits, show_limits):
+                 marked_examples_6_to_9, kinds_of_literals, texts_in_aspif, bound_of_texts, figures,
+                 rule_limits, count_limits, number_limits, length_limits, set_limits, show_limits):
         tally.run(part)
     for part in (one_to_one_match, brute_force_and_search, verdicts_and_answer_sets,
-                 reading_and_writing):
+                 texts_and_programs, reading_and_writing):
         tally.run(part, random.Random(f"{SEED} {part.__name__}"))
     print(f"{tally.checks} checks, {tally.failed} failed")
     return 1 if tally.failed or not tally.checks else 0

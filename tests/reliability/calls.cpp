@@ -34,6 +34,7 @@ std::uint64_t by_library(unsigned operation, const Slices &s, std::uint32_t rule
     case restriction: return aspda_restrict(s.set, s.set_length, s.out, s.room);
     case check_source: return with_set(aspda_check_source, s);
     case check_plain: return with_set(aspda_check_plain, s);
+    case aspif: return aspda_aspif(s.program, s.program_length, s.out, s.room);
     default: throw std::logic_error("an operation that the library is not asked for");
     }
 }
@@ -53,6 +54,7 @@ std::uint64_t by_reference(const Call &call, Bytes &buffer)
     case restriction: return reference::restriction(call.set, buffer);
     case check_source:
     case check_plain: return reference::check(form, call.program, call.set, buffer);
+    case aspif: return reference::aspif(call.program, buffer);
     default: throw std::logic_error("an operation that the reference is not asked for");
     }
 }

@@ -19,10 +19,10 @@ struct Export {
 
 enum Operation : unsigned {
     read_source, read_plain, show_source, show_plain, translate, quotient_source, quotient_plain, extend, restriction,
-    check_source, check_plain
+    check_source, check_plain, aspif
 };
 
-constexpr std::array<Export, 11> exports{{
+constexpr std::array<Export, 12> exports{{
     {"read_source", Form::source, true, false, false, false},
     {"read_plain", Form::plain, true, false, false, false},
     {"show_source", Form::source, true, false, true, false},
@@ -34,6 +34,7 @@ constexpr std::array<Export, 11> exports{{
     {"restrict", Form::plain, false, true, false, true},
     {"check_source", Form::source, true, true, false, true},
     {"check_plain", Form::plain, true, true, false, true},
+    {"aspif", Form::plain, true, false, false, true},
 }};
 
 inline bool is_check(unsigned operation) { return operation == check_source || operation == check_plain; }

@@ -18,7 +18,7 @@ using reference::source_limits;
 
 namespace {
 
-constexpr std::size_t literal_size = 5, set_header = 4;
+constexpr std::size_t literal_size = 5, set_header = 4, rule_header = 7;
 
 // Room for every result of a call with these inputs.
 std::size_t ample(const Call &call)
@@ -53,6 +53,15 @@ Literals run_of_literals(std::size_t count, bool negated_too, unsigned last_kind
                 run.push_back({kind, tag, number});
     }
     return run;
+}
+
+// Any literal of the plain form, kinds alike.
+Literal evenly_drawn(Random &random)
+{
+    auto upto = [&](unsigned most) { return static_cast<unsigned>(random.between(1, most)); };
+    auto kind = static_cast<unsigned>(random.below(plain_limits.last_kind + 1));
+    if (kind == reference::rule_defeated) return {kind, 0, upto(reference::last_rule_number)};
+    return {kind, kind < reference::defeated ? 0 : upto(last_tag), upto(last_atom)};
 }
 
 // A byte that is often just inside or just outside a range of document 01.
@@ -199,10 +208,32 @@ void Batch::make_limit()
     }
     encode_source();
     if (is_full) return;
-    body = 0;
     plain.rules.clear();
+    if (random.once_in(2)) {
+        make_most_literals();
+        return;
+    }
+    body = 0;
     std::size_t count = random.between(plain_limits.rules - 5, plain_limits.rules + 1);
     for (std::size_t i = 0; i < count; ++i) plain.rules.push_back(rule(Form::plain));
+    plain.bytes = reference::program_bytes(plain.rules);
+}
+
+// A plain program of the longest kind in which hardly a literal occurs twice: the widest rules, literals from everywhere.
+void Batch::make_most_literals()
+{
+    constexpr reference::Limits most = plain_limits;
+    constexpr std::size_t widest = most.head + most.positive + most.naf, end_record = 4;
+    std::size_t left = most.length - end_record;
+    while (left >= rule_header) {
+        std::size_t count = std::min(widest, (left - rule_header) / literal_size);
+        left -= rule_header + literal_size * count;
+        Literals any;
+        while (any.size() < count) any.push_back(evenly_drawn(random));
+        auto positive = any.begin() + std::min(count, most.head), naf = any.begin() + std::min(count, most.head + most.positive);
+        plain.rules.push_back({false, 0, {any.begin(), positive}, {positive, naf}, {naf, any.end()}, 0, 0});
+        if (left < rule_header + literal_size) break; // room for no literal more
+    }
     plain.bytes = reference::program_bytes(plain.rules);
 }
 
@@ -348,6 +379,9 @@ std::uint32_t Batch::rule_number(Form form)
 // The result's own length mostly, and one less, more, none.
 std::size_t Batch::room_for(Call call)
 {
+    // Around the length that always suffices: code may go another way from there on, or from somewhat later.
+    if (call.operation == calls::aspif && random.once_in(4))
+        return reference::aspif_bound(call.program.size()) - 2 + random.below(random.once_in(2) ? 4 : well_beyond);
     Bytes buffer(ample(call));
     std::uint64_t word = calls::by_reference(call, buffer);
     std::size_t needed = ASPDA_IS_REFUSAL(word)             ? random.below(64)

@@ -11,6 +11,8 @@ using calls::Call;
 using calls::Form;
 
 constexpr std::uint64_t batch_size = 32;
+// So many bytes more than the bound of a text in aspif.
+constexpr std::size_t well_beyond = 4096;
 
 // Steele, Lea and Flood's splitmix64.
 class Random {
@@ -59,6 +61,7 @@ private:
     void make_small();
     void make_disjunctive();
     void make_limit();
+    void make_most_literals();
     void make_sets(Form form);
     void encode_source();
     reference::Literal literal(unsigned last_kind);

@@ -26,6 +26,9 @@ void put_all(const std::string &directory, const Bytes &set, const Bytes &progra
 {
     for (unsigned operation = 0; operation < calls::exports.size(); ++operation)
         put(directory, operation, calls::exports[operation].takes_rule ? 1 : 6000, set, program);
+    // A length that suffices for every text, where the file can say it.
+    std::size_t enough = reference::aspif_bound(program.size()) + cases::well_beyond;
+    if (enough < 65536) put(directory, calls::aspif, enough, set, program);
 }
 
 // As many rules as a source takes, and one more; sets as large as the check and a source take, and one more.

@@ -108,7 +108,7 @@ extern "C" int LLVMFuzzerTestOneInput(const uint8_t *data, size_t size)
 }
 
 // Half of the changes are libFuzzer's own, half are cases.hpp's damage to the program or the set, another operation,
-// or an output slice of the result's length or one less.
+// or an output slice of the result's length or one less, for a text in aspif also around the length that always suffices.
 extern "C" size_t LLVMFuzzerCustomMutator(uint8_t *data, size_t size, size_t most, unsigned seed)
 {
     cases::Random random(seed);
@@ -119,6 +119,11 @@ extern "C" size_t LLVMFuzzerCustomMutator(uint8_t *data, size_t size, size_t mos
     case 1: cases::damage(random, call.set); break;
     case 2: call.operation = static_cast<unsigned>(random.below(calls::exports.size())); break;
     default: {
+        std::size_t bound = reference::aspif_bound(call.program.size());
+        if (call.operation == calls::aspif && bound + cases::well_beyond < 65536 && random.once_in(2)) {
+            call.room = bound - 1 + random.below(random.once_in(2) ? 2 : cases::well_beyond);
+            break;
+        }
         Bytes ample(65535);
         std::uint64_t word = calls::by_reference(call, ample);
         if (word >> 63) break;

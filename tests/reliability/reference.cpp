@@ -1,6 +1,7 @@
 #include "reference.hpp"
 
 #include <algorithm>
+#include <string>
 
 namespace reference {
 
@@ -211,6 +212,90 @@ void put_translated(Program &translation, const Rule &rule, std::size_t number)
         translation.push_back(strict({}, {derivations[i], defeats[i]}, {}));
     }
 }
+
+// ---- Export to aspif (document 02, ask 1)
+
+// The literals in the program, each once, in ascending byte order.
+Literals literals_in(const Program &program)
+{
+    Literals all;
+    for (const Rule &rule : program)
+        for (const Literals *part : {&rule.head, &rule.positive, &rule.naf})
+            all.insert(all.end(), part->begin(), part->end());
+    std::sort(all.begin(), all.end());
+    all.erase(std::unique(all.begin(), all.end()), all.end());
+    return all;
+}
+
+// A text in the making, and the literals by whose places, from 1, it is numbered.
+class Text {
+public:
+    explicit Text(const Program &program) : numbered(literals_in(program))
+    {
+        line = "asp 1 0 0";
+        end_line();
+        for (const Rule &rule : program) put_rule(rule);
+        put_constraints();
+        put_names();
+        line = "0";
+        end_line();
+    }
+    Bytes bytes() const { return Bytes(text.begin(), text.end()); }
+
+private:
+    std::size_t number_of(const Literal &literal) const
+    {
+        return std::lower_bound(numbered.begin(), numbered.end(), literal) - numbered.begin() + 1;
+    }
+    bool occurs(const Literal &literal) const { return contains(numbered, literal); }
+
+    void put(const std::string &field) { line += ' ' + field; }
+    void put(std::size_t field) { put(std::to_string(field)); }
+    void end_line()
+    {
+        text += line + '\n';
+        line.clear();
+    }
+
+    void put_rule(const Rule &rule)
+    {
+        line = "1 0";
+        put(rule.head.size());
+        for (const Literal &literal : rule.head) put(number_of(literal));
+        line += " 0";
+        put(rule.positive.size() + rule.naf.size());
+        for (const Literal &literal : rule.positive) put(number_of(literal));
+        for (const Literal &literal : rule.naf) put("-" + std::to_string(number_of(literal)));
+        end_line();
+    }
+    void put_constraints()
+    {
+        for (unsigned number = 1; number <= last_atom; ++number) {
+            Literal positive{atom, 0, number}, negative{negated, 0, number};
+            if (!occurs(positive) || !occurs(negative)) continue;
+            line = "1 0 0 0 2";
+            put(number_of(positive));
+            put(number_of(negative));
+            end_line();
+        }
+    }
+    void put_names()
+    {
+        for (const Literal &literal : numbered) {
+            if (literal.kind > negated) continue;
+            std::string name = (literal.kind == atom ? "p" : "n") + std::to_string(literal.number);
+            line = "4";
+            put(name.size());
+            put(name);
+            line += " 1";
+            put(number_of(literal));
+            end_line();
+        }
+    }
+
+    Literals numbered;
+    std::string text, line;
+};
 
 // ---- Extension
 
@@ -513,6 +598,11 @@ std::uint64_t restriction(const Bytes &set, Bytes &buffer)
             if (literal.kind < derived) kept.push_back(literal);
         return deliver(set_bytes(kept), buffer);
     });
+}
+
+std::uint64_t aspif(const Bytes &program, Bytes &buffer)
+{
+    return word_of([&] { return deliver(Text(read_program(Form::plain, program)).bytes(), buffer); });
 }
 
 std::uint64_t check(Form form, const Bytes &program, const Bytes &set, Bytes &buffer)

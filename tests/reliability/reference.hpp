@@ -1,5 +1,6 @@
-// A second reference, in C++ so that millions of calls can be compared: every operation of document 01, written from
-// that document and from include/aspda.h, without the library's definitions or code and without the Python reference.
+// A second reference, in C++ so that millions of calls can be compared: every operation of document 01 and document 02's
+// export to aspif, written from those documents and from include/aspda.h, without the library's definitions or code and
+// without the Python reference.
 // It is written for plainness: a program becomes a vector of rules, a set a sorted vector.
 #pragma once
 
@@ -35,6 +36,12 @@ constexpr unsigned last_atom = 500, last_tag = 200, last_rule_number = 256;
 constexpr std::size_t checked_set = 64;
 // A translation has at most so many times its source's bytes.
 constexpr std::size_t times_longer = 13;
+
+// A text in aspif has at most so many bytes, for a program of so many.
+constexpr std::size_t aspif_bound(std::size_t length)
+{
+    return 2 * length + 29012;
+}
 
 // In the order of the fields, which is the order of the bytes.
 struct Literal {
@@ -76,6 +83,7 @@ std::uint64_t translate(const Bytes &source, Bytes &buffer);
 std::uint64_t quotient(Form form, const Bytes &program, const Bytes &set, Bytes &buffer);
 std::uint64_t extend(const Bytes &source, const Bytes &set, Bytes &buffer);
 std::uint64_t restriction(const Bytes &set, Bytes &buffer);
+std::uint64_t aspif(const Bytes &program, Bytes &buffer);
 std::uint64_t check(Form form, const Bytes &program, const Bytes &set, Bytes &buffer);
 
 } // namespace reference

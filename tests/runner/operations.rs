@@ -43,13 +43,14 @@ const READ_PLAIN: &[u64] = &[1, 2, 3, 4, 5, 6, 8];
 const SHOW_SOURCE: &[u64] = &[1, 2, 3, 4, 5, 6, 7, 8, 13];
 const SHOW_PLAIN: &[u64] = &[1, 2, 3, 4, 5, 6, 8, 13];
 pub const TRANSLATE: &[u64] = &[1, 2, 3, 4, 5, 6, 7, 8, 9];
+const PLAIN_TO_OUT: &[u64] = &[1, 2, 3, 4, 5, 6, 8, 9];
 const SOURCE_AND_SET: &[u64] = &[1, 2, 3, 4, 5, 6, 7, 8, 9, 10, 11, 12];
 const PLAIN_AND_SET: &[u64] = &[1, 2, 3, 4, 5, 6, 8, 9, 10, 11, 12];
 const SET_ALONE: &[u64] = &[9, 10, 11, 12];
 
 /// The operations that the library exports.
 #[rustfmt::skip]
-pub const OPERATIONS: [Operation; 11] = {
+pub const OPERATIONS: [Operation; 12] = {
     use Function::*;
     [
         Operation { name: "read_source", function: OnProgram(exports::read_source), refusals: READ_SOURCE },
@@ -63,5 +64,6 @@ pub const OPERATIONS: [Operation; 11] = {
         Operation { name: "restrict", function: OnSetToOut(exports::restrict), refusals: SET_ALONE },
         Operation { name: "check_source", function: OnBothToOut(exports::check_source), refusals: SOURCE_AND_SET },
         Operation { name: "check_plain", function: OnBothToOut(exports::check_plain), refusals: PLAIN_AND_SET },
+        Operation { name: "aspif", function: OnProgramToOut(exports::aspif), refusals: PLAIN_TO_OUT },
     ]
 };

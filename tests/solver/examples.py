@@ -1,4 +1,5 @@
-"""Makes the byte files of examples/: the marked examples M1 and M3 and their translations.
+"""Makes the byte files of examples/: the marked examples M1 and M3, their translations, and the
+translations' texts in aspif.
 
     python3 tests/solver/examples.py            write them afresh
     python3 tests/solver/examples.py --check    compare instead
@@ -12,7 +13,7 @@ sys.dont_write_bytecode = True
 sys.path.insert(0, str(Path(__file__).resolve().parent.parent / "reference"))
 
 import samples                                                                  # noqa: E402
-from aspda import encoded_program, translation                                  # noqa: E402
+from aspda import aspif_text, encoded_program, translation                      # noqa: E402
 
 EXAMPLES = Path(__file__).resolve().parent.parent.parent / "examples"
 
@@ -23,6 +24,7 @@ def files():
     for name, rules in (("m1", samples.M1), ("m3", samples.M3)):
         made[f"{name}.aspda"] = encoded_program(rules)
         made[f"{name}.plain"] = encoded_program(translation(rules))
+        made[f"{name}.aspif"] = aspif_text(translation(rules))
     return made
 
 

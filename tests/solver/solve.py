@@ -1,4 +1,4 @@
-"""The answer sets of a plain program, by clingo.
+"""The answer sets of a plain program, by clingo, and of a text in aspif, by clasp.
 
     python3 tests/solver/solve.py FILE          the answer sets, one a line
     python3 tests/solver/solve.py FILE --text   the program as clingo's text
@@ -7,7 +7,8 @@ FILE holds a plain program in bytes; - is standard input.
 
 Each literal is an atom of its own name in clingo's text, so that clingo's own explicit negation
 plays no part: p3 atom 3, n3 its explicit negation, d7p1 and d7n1 defeated (7, 1) and
-(7, negated 1), e7p1 and e7n1 derived, r4 rule-defeated 4.
+(7, negated 1), e7p1 and e7n1 derived, r4 rule-defeated 4. A text in aspif has the same names for
+atoms and negated atoms, and none for marks.
 """
 
 import argparse
@@ -124,18 +125,54 @@ def version():
                      for part, found in zip(("clingo", "clasp"), numbers))
 
 
-def text_answer_sets(text, options=SOUND_OPTIONS):
-    """The answer sets of a text, as a set: clingo prints some of them twice."""
-    run = clingo(["0", *options, "--outf=2", "--warn=none", "-"], text)
+def enumerated(arguments, text):
+    """All answer sets that a run on a text prints, as lists of names."""
+    run = clingo(["0", *arguments, "--outf=2", "-"], text)
     if run.returncode not in EXHAUSTED:
         raise SolverError(f"clingo ended with status {run.returncode}: {run.stderr.strip()}")
-    witnesses = json.loads(run.stdout)["Call"][0].get("Witnesses", [])
-    return {frozenset(map(literal_of, witness["Value"])) for witness in witnesses}
+    return witnesses(run.stdout)
+
+
+def witnesses(printed):
+    """The answer sets in what a run with --outf=2 printed, as lists of names."""
+    return [witness["Value"] for witness in json.loads(printed)["Call"][0].get("Witnesses", [])]
+
+
+def text_answer_sets(text, options=SOUND_OPTIONS):
+    """The answer sets of a text, as a set: clingo prints some of them twice."""
+    return {frozenset(map(literal_of, names))
+            for names in enumerated([*options, "--warn=none"], text)}
 
 
 def answer_sets(plain, options=SOUND_OPTIONS):
     """The answer sets of a plain program in bytes, as sets of literals."""
     return text_answer_sets(program_text(read_rules(PLAIN, plain)), options)
+
+
+# ---------------------------------------------------------------------------------------------
+# Texts in aspif
+
+
+def aspif_names(text):
+    """The names in a text, with their numbers."""
+    lines = (line.split(" ") for line in text.splitlines())
+    return {fields[2]: int(fields[4]) for fields in lines if fields[0] == "4"}
+
+
+def fully_named(text, numbers):
+    """The text with a name for each of these literals that has none, so that its number is shown."""
+    named = aspif_names(text).values()
+    added = [f"4 {len(name_of(literal))} {name_of(literal)} 1 {number}\n"
+             for literal, number in numbers.items() if number not in named]
+    end = "0\n"
+    if not text.endswith(end):
+        raise SolverError(f"no text in aspif: its last line is not 0:\n{text}")
+    return text[:-len(end)] + "".join(added) + end
+
+
+def aspif_answer_sets(text, options=SOUND_OPTIONS):
+    """The answer sets that clasp prints of a text, as lists of names; some may come twice."""
+    return enumerated(["--mode=clasp", *options], text)
 
 
 def in_order(sets):

@@ -1,4 +1,5 @@
-"""Two traps, as cases that run: a solver's default options, and the old product's translation.
+"""Three traps, as cases that run: a solver's default options, the old product's translation, and what no
+option of the solver heals.
 
     python3 tests/solver/traps.py
 
@@ -7,13 +8,21 @@ clingo are left out where it is not there; those by brute force always run.
 
 (a) Debian's clingo 5.4.1 (clasp 3.3.5) with its default options loses answer sets of some
     disjunctive programs, translations among them. Seen with heads of six literals and more, and a
-    loop through two of them. With --no-gamma --eq=0 it agrees with brute force.
+    loop through two of them. With --no-gamma --eq=0 it agrees with brute force. It is --no-gamma that
+    heals: by itself it agrees as often in all that was tried. --eq=0 leaves out the preprocessing that
+    merges equivalent atoms, of which translations are full (a literal and its derivation mark), and at
+    times makes clasp print a set twice.
 
 (b) The old product's way is document 000's Theorem 2: a plain rule for each non-empty subset of a
     rule's options. As printed, the defeat marks of the other options stand in the positive body,
     so a defeat that follows from the rule's own choice has to hold itself up, and answer sets are
     lost. With those marks doubly negated it agrees. It gives up above four options, since the
     number of rules doubles with each.
+
+(c) With any options the same clasp loses answer sets where a head reaches into two loops and the part
+    in one of them is another rule's head. It is rare: a few in a thousand random programs with loops.
+    Every answer set is a supported model, and clasp lists those with --supp-models: the ones that the
+    check says yes to are all the answer sets.
 """
 
 import random
@@ -26,8 +35,9 @@ sys.path.insert(0, str(Path(__file__).resolve().parent.parent / "reference"))
 
 import solve                                                                    # noqa: E402
 import sources                                                                  # noqa: E402
-from aspda import (answer_sets, atom, defeasible, defeated, extension,          # noqa: E402
-                   is_answer_set, restriction, strict, subsets, translated_rule, translation)
+from aspda import (YES, answer_sets, aspif_text, atom, defeasible, defeated,    # noqa: E402
+                   extension, is_answer_set, numbering, restriction, strict, subsets,
+                   translated_rule, translation, verdict)
 from samples import literals_of                                                 # noqa: E402
 
 SEED = 1
@@ -115,7 +125,7 @@ def both_options(report, name, rules, right, described):
 
 def random_default_options(report, described):
     rng = random.Random(f"{SEED} loops")
-    lost = gained = differ = 0
+    lost = gained = differ = differ_by_one = 0
     for _ in range(LOOPED_PROGRAMS):
         rules = random_loops(rng)
         right = set(answer_sets(rules, literals_of(rules)))
@@ -124,10 +134,11 @@ def random_default_options(report, described):
         lost += not right <= found
         gained += not found <= right
         differ += solve.text_answer_sets(text) != right
+        differ_by_one += solve.text_answer_sets(text, options=("--no-gamma",)) != right
     report.expect(f"{LOOPED_PROGRAMS} random programs with such loops: by default it loses answer "
                   f"sets in {lost} and gains some in {gained}; with those two options it differs "
-                  f"in {differ}",
-                  (lost > 0 or not described) and differ == 0)
+                  f"in {differ}, with --no-gamma alone in {differ_by_one}",
+                  (lost > 0 or not described) and differ == differ_by_one == 0)
 
 
 # ---------------------------------------------------------------------------------------------
@@ -256,11 +267,61 @@ def numbers_of_rules(report):
 
 
 # ---------------------------------------------------------------------------------------------
+# (c) What no option heals
+
+
+def two_loops():
+    """1 or 2 or 3 or 4; 1 if 2; 2 if 1; 3 or 4 if 5; 5 if 3; 5 if 4."""
+    one, two, three, four, five = (atom(number) for number in range(1, 6))
+    return [strict([one, two, three, four]), strict([one], [two]), strict([two], [one]),
+            strict([three, four], [five]), strict([five], [three]), strict([five], [four])]
+
+
+def lost_with_any_options(report):
+    report.title("(c) a head in two loops: 1 or 2 or 3 or 4; 1 if 2; 2 if 1; 3 or 4 if 5; 5 if 3; 5 if 4")
+    plain = two_loops()
+    # Two choices with one tag: their derivation marks meet as the literals do above.
+    source = [defeasible(1, rule.heads, rule.positives) if len(rule.heads) > 1 else rule
+              for rule in plain]
+    right = set(answer_sets(plain, literals_of(plain)))
+    extended = {extension(source, found) for found in answer_sets(source, literals_of(source))}
+    report.expect(f"brute force: {len(right)} answer sets, {words(right)}", len(right) == 3)
+    report.expect(f"as a source with tag 1: {len(extended)}", len(extended) == 3)
+    if not solve.is_there():
+        report.note("skipped: clingo is not there")
+        return
+    described = solve.version() == DESCRIBED_VERSION
+    for name, rules, expected in (("this program", plain, right),
+                                  ("the source's translation", translation(source), extended)):
+        both_modes_lose(report, name, rules, expected, described)
+
+
+def both_modes_lose(report, name, rules, right, described):
+    """From text and from aspif, with the two options: what is lost, and how it is found again."""
+    text = aspif_text(rules).decode("ascii")
+    numbers = numbering(rules)
+
+    def from_aspif(options):
+        named = solve.aspif_answer_sets(solve.fully_named(text, numbers), options)
+        return {frozenset(map(solve.literal_of, names)) for names in named}
+
+    for mode, found in (("text", solve.text_answer_sets(solve.program_text(rules))),
+                        ("aspif", from_aspif(solve.SOUND_OPTIONS))):
+        report.expect(f"{name}, {mode}, {' '.join(solve.SOUND_OPTIONS)}: {len(found)} answer sets, "
+                      f"lost {words(right - found)}", not described or found < right)
+    supported = from_aspif((*solve.SOUND_OPTIONS, "--supp-models"))
+    checked = {found for found in supported if verdict(rules, sorted(found))[0] == YES}
+    report.expect(f"{name}, --supp-models: {len(supported)} sets; the check says yes to "
+                  f"{len(checked)}", checked == right)
+
+
+# ---------------------------------------------------------------------------------------------
 
 
 def main():
     report = Report()
-    for part in (default_options, smallest_case, random_sources, numbers_of_rules):
+    for part in (default_options, smallest_case, random_sources, numbers_of_rules,
+                 lost_with_any_options):
         before = report.told
         part(report)
         if report.told == before:

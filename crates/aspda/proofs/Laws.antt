@@ -2,3 +2,4 @@ pub mod Words
 pub mod Verdicts
 pub mod Lengths
 pub mod Told
+pub mod Exports

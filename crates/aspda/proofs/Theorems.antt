@@ -69,8 +69,9 @@ use Rattle.check_set.specs.declared.Check.the-variants.{Found}
 use Rattle.check_set.specs.Verdict.{verdictOf, witness}
 use Rattle.check_set.specs.Check.{found, Checked, checkedOf, checked}
 use Rattle.aspda_word.specs.Words.{ToldWritten}
-use Rattle.aspda.specs.Claims.{Reading, Quotients, Quotient, Extending, Checks, Checking, Shows, Showing, Translates, Translating, Tells, Words}
+use Rattle.aspda.specs.Claims.{Reading, Quotients, Quotient, Extending, Checks, Checking, Shows, Showing, Translates, Translating, Exporting, Tells, Words}
 use Rattle.aspda.proofs.Laws.Lengths.{rules-kept, quotient-no-longer, extension-at-most, restriction-no-longer}
+use Rattle.aspda.proofs.Laws.Exports.{names-of-text, text-bound, text-match, text-exports, exported-told}
 use Rattle.aspda.proofs.Laws.Told.{bounded, bounded-then, told-delivered, told-read, told-show, told-checked, told-quotiented, told-extended, told-restricted}
 
 pub reading : Reading
@@ -292,6 +293,9 @@ translating =
       matches = match;
     }
 
+pub exporting : Exporting
+exporting = record { exports = text-exports; bound = text-bound; matches = text-match; names-said = names-of-text }
+
 tells : (F : Limits) → F .length < 2147483648 → F .rules < 4294967296 → 4 + 5 * F .checked < 4294967296 → Tells F
 tells F long rules sets =
     record {
@@ -316,6 +320,7 @@ words =
       tells-source = tells source (omega arith) (omega arith) (omega arith);
       tells-plain = tells plain (omega arith) (omega arith) (omega arith);
       translates = translated-told;
+      exports = exported-told;
       extends = λ b k out bytes chars. told-extended source (omega arith) b bytes extendable-source k out chars;
       restricts = λ k out bytes. told-restricted plain (omega arith) k out bytes;
     }

@@ -1,11 +1,12 @@
 -- What is to be believed of the library, as types in the order of its demands. `proofs/Theorems.antt` proves each.
 -- The functions' contracts say that they answer what the definitions give, so these claims are about the functions.
--- In order: reading; quotients; extension and restriction; the check; show; translating; words.
+-- In order: reading; quotients; extension and restriction; the check; show; translating; exporting; words.
 -- Assumes nothing.
 use Prim.Native.Nat.{ℕ, _+_, _*_, _≤_}
 use mathlib.Core.Path.{_≡_}
 use mathlib.Core.Logic.{_↔_}
-use mathlib.Core.List.{List, _∷_, _++_}
+use mathlib.Core.List.{List, _∷_, _++_, map}
+use mathlib.Core.Option.{some}
 use lib.Dec.{T}
 use lib.ListN.{length, take, drop}
 use Rattle.buffer.specs.Bytes.{Bytes}
@@ -33,6 +34,12 @@ use Rattle.set.specs.Layout.{ascending, encodedSet, keepsSet}
 use Rattle.set.specs.Reading.{parsedSet}
 use Rattle.translate.specs.Translate.{translated}
 use Rattle.quotient.specs.Quotient.{quotientProgram, quotiented}
+use Rattle.aspif_meaning.specs.Numbering.{numberOf}
+use Rattle.aspif_meaning.specs.Program.{names}
+use Rattle.aspif_meaning.specs.Match.{NumberMatch}
+use Rattle.aspif_text.specs.Text.{Statement, outputOf, statements, aspifText}
+use Rattle.aspif_text.specs.Reading.{says, rulesOf, outputsOf}
+use Rattle.aspif.specs.Aspif.{exported}
 use Rattle.extend.specs.Extend.{extensionList, extended}
 use Rattle.restrict.specs.Restrict.{restrictionList, restricted}
 use Rattle.check_set.specs.declared.Verdict.the-variants.{Yes}
@@ -152,6 +159,25 @@ pub record Translating : Type 0 where
   -- the answer sets match one to one, for every set of source literals and every set of plain literals
   pub matches : (b : List ℕ) (p : Program) → Bytes b → parsed source b ≡ accepted p → FormMatch source plain p
 
+-- 02's Ask 1, for the bytes b of a plain program that is read as p, and a lent buffer out that is long enough
+pub record Exports (b : List ℕ) (p : Program) (out : List ℕ) : Type 0 where
+  -- the answer is the length of what is written, and the bytes behind it are untouched
+  pub answers : exported plain b out .answer ≡ Length (length (aspifText p))
+  pub behind : drop (length (aspifText p)) (exported plain b out .buffer) ≡ drop (length (aspifText p)) out
+  -- what is written says, line by line, the rules of p in numbers, the constraints and the names
+  pub reads-back : says (take (length (aspifText p)) (exported plain b out .buffer)) ≡ some (statements p)
+
+pub record Exporting : Type 0 where
+  -- a buffer as long as the text is long enough
+  pub exports : (b : List ℕ) (p : Program) → Bytes b → parsed plain b ≡ accepted p → (out : List ℕ) → length (aspifText p) ≤ length out → Exports b p out
+  -- a text has at most twice the program's bytes and 29,012 more
+  pub bound : (b : List ℕ) (p : Program) → Bytes b → parsed plain b ≡ accepted p → length (aspifText p) ≤ 2 * length b + 29012
+  -- by the numbers of p's literals, p's answer sets match those of the ground program that the text says, one to one
+  pub matches : (b : List ℕ) (p : Program) → Bytes b → parsed plain b ≡ accepted p → (xs : List Statement) → says (aspifText p) ≡ some xs
+      → NumberMatch p (numberOf p) (rulesOf xs)
+  -- and the names that it says are those of p's atoms and negated atoms, with their numbers
+  pub names-said : (p : Program) (xs : List Statement) → says (aspifText p) ≡ some xs → outputsOf xs ≡ map outputOf (names p)
+
 -- the words that the exports answer, in a form: a word is 2^63 or more exactly for a refusal, so that its highest bit tells a
 -- caller. The slices hold bytes; nothing is assumed of their lengths
 pub record Tells (F : Limits) : Type 0 where
@@ -166,5 +192,6 @@ pub record Words : Type 0 where
   pub tells-plain : Tells plain
   -- the lengths of what the operations of one form write
   pub translates : (b out : List ℕ) → Bytes b → ToldWritten (translated source b out .answer)
+  pub exports : (b out : List ℕ) → Bytes b → ToldWritten (exported plain b out .answer)
   pub extends : (b k out : List ℕ) → Bytes b → Bytes k → ToldWritten (extended source b k out .answer)
   pub restricts : (k out : List ℕ) → Bytes k → ToldWritten (restricted plain k out .answer)

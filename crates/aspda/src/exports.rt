@@ -4,6 +4,7 @@ use aspda_word::word::check_word;
 use aspda_word::word::reading_word;
 use aspda_word::word::shown_word;
 use aspda_word::word::written_word;
+use aspif::aspif::export_plain;
 use check_set::proposed::check_plain;
 use check_set::proposed::check_source;
 use extend::extend::extend_source;
@@ -21,6 +22,7 @@ ghost use Rattle.record.specs.Reading.{reading};
 ghost use Rattle.record_show.specs.Show.{shown};
 ghost use Rattle.translate.specs.Translate.{translated};
 ghost use Rattle.quotient.specs.Quotient.{quotiented};
+ghost use Rattle.aspif.specs.Aspif.{exported};
 ghost use Rattle.extend.specs.Extend.{extended};
 ghost use Rattle.restrict.specs.Restrict.{restricted};
 ghost use Rattle.check_set.specs.Check.{checked};
@@ -64,6 +66,14 @@ pub extern "C" fn aspda_quotient_plain(s: &[u8], k: &[u8], out: &mut [u8]) -> u6
     ensures { λ r. ⌜ MeetsWord (quotiented plain (now (s .entry)) (now (k .entry)) (now (out .entry))) r (now (out .exit)) ⌝ }
 {
     written_word(quotient_plain(s, k, out))
+}
+
+// The aspif text of a plain program, written to the start of `out`: its length, or the refusal.
+#[no_mangle]
+pub extern "C" fn aspda_aspif(s: &[u8], out: &mut [u8]) -> u64
+    ensures { λ r. ⌜ MeetsWord (exported plain (now (s .entry)) (now (out .entry))) r (now (out .exit)) ⌝ }
+{
+    written_word(export_plain(s, out))
 }
 
 // The extension of a source set by a source, written to the start of `out`: its length, or the refusal.

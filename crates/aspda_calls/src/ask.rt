@@ -6,6 +6,7 @@ use crate::tell::tell_reading;
 use crate::tell::tell_record;
 use crate::tell::tell_shown;
 use crate::tell::tell_written;
+use aspif::aspif::export_plain;
 use check_set::proposed::check_plain;
 use check_set::proposed::check_source;
 use extend::extend::extend_source;
@@ -39,6 +40,11 @@ pub fn ask_program(example: &[u8], s: &[u8]) {
 // A source's translation.
 pub fn ask_translate(example: &[u8], s: &[u8], out: &mut [u8]) {
     tell_written(example, b"translate_source", translate_source(s, out), out);
+}
+
+// A plain program's text.
+pub fn ask_text(example: &[u8], s: &[u8], out: &mut [u8]) {
+    tell_written(example, b"export_plain", export_plain(s, out), out);
 }
 
 fn ask_quotient(example: &[u8], s: &[u8], k: &[u8], out: &mut [u8]) {

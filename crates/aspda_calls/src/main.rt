@@ -1,4 +1,5 @@
-// A program that calls every entry point that Rattle code has, on document 01's marked examples, and tells what each answers.
+// A program that calls every entry point that Rattle code has, on document 01's marked examples and document 02's program with
+// the fact 1, and tells what each answers.
 // tests/calls.py makes the same lines from the reference alone.
 mod ask;
 mod tell;
@@ -6,6 +7,7 @@ mod tell;
 use crate::ask::ask_program;
 use crate::ask::ask_rule;
 use crate::ask::ask_set;
+use crate::ask::ask_text;
 use crate::ask::ask_translate;
 use crate::tell::front;
 use crate::tell::tell_written;
@@ -13,7 +15,7 @@ use extend::extend::extend_source;
 use record::Written;
 use translate::translate::translate_source;
 
-// Room for every result here: M3's translation has 433 bytes.
+// Room for every result here: M3's translation has 433 bytes, and so has its text.
 const ROOM: usize = 512;
 
 // The number of bytes written.
@@ -24,13 +26,25 @@ fn length_of(a: Written) -> usize {
     }
 }
 
-// A source, and its translation as a program.
-fn source(example: &[u8], translated: &[u8], s: &[u8]) {
-    let mut plain = [0u8; ROOM];
+// A plain program's text.
+fn text(example: &[u8], s: &[u8]) {
+    let mut out = [0u8; ROOM];
+    ask_text(example, s, &mut out);
+}
+
+// A plain program, and its text.
+fn plain(example: &[u8], s: &[u8]) {
     ask_program(example, s);
-    let a = translate_source(s, &mut plain);
-    tell_written(example, b"translate_source", a, &plain);
-    ask_program(translated, front(&plain, length_of(a)));
+    text(example, s);
+}
+
+// A source, and its translation.
+fn source(example: &[u8], translated: &[u8], s: &[u8]) {
+    let mut out = [0u8; ROOM];
+    ask_program(example, s);
+    let a = translate_source(s, &mut out);
+    tell_written(example, b"translate_source", a, &out);
+    plain(translated, front(&out, length_of(a)));
 }
 
 // A set beside a program.
@@ -59,6 +73,7 @@ fn m1() {
     ask_rule(b"M1", s, 2);
     ask_translate(b"M1 into 94 bytes", s, &mut exact);
     ask_translate(b"M1 into 93 bytes", s, &mut short);
+    text(b"M1", s);
     source_set(
         b"M1 {1}",
         b"M1 {1} translated",
@@ -72,6 +87,7 @@ fn m2() {
     let mut out = [0u8; ROOM];
     ask_program(b"M2", b"");
     ask_translate(b"M2", b"", &mut out);
+    ask_text(b"M2", b"", &mut out);
     set(b"M2 {}", b"", b"A:\x00\x00");
 }
 
@@ -124,6 +140,7 @@ fn m6() {
     let mut short = [0u8; 3];
     ask_program(b"M6", s);
     ask_rule(b"M6", s, 2);
+    text(b"M6", s);
     set(b"M6 {1, 2}", s, k);
     set(
         b"M6 {2, 1}",
@@ -143,16 +160,26 @@ fn m7() {
 // A rule without head or body.
 fn m8() {
     let s = b"S:\x00\x00\x00\x00\x00E:\x00\x01";
-    ask_program(b"M8", s);
+    plain(b"M8", s);
     set(b"M8 {}", s, b"A:\x00\x00");
 }
 
 // No rules.
 fn m9() {
     let s = b"E:\x00\x00";
-    ask_program(b"M9", s);
+    plain(b"M9", s);
     set(b"M9 {}", s, b"A:\x00\x00");
     set(b"M9 {1}", s, b"A:\x00\x01\x00\x00\x00\x00\x01");
+}
+
+// 1. Its text has 35 bytes; 34 are too few.
+fn fact() {
+    let s = b"S:\x00\x00\x01\x00\x00\x00\x00\x00\x00\x01E:\x00\x01";
+    let mut exact = [0u8; 35];
+    let mut short = [0u8; 34];
+    plain(b"fact", s);
+    ask_text(b"fact into 35 bytes", s, &mut exact);
+    ask_text(b"fact into 34 bytes", s, &mut short);
 }
 
 fn main() {
@@ -165,4 +192,5 @@ fn main() {
     m7();
     m8();
     m9();
+    fact();
 }

@@ -4,9 +4,11 @@
 use mathlib.Core.Path.{refl}
 use lib.Dec.{T}
 use Rattle.buffer.specs.Write.{write}
+use Rattle.decimal.specs.Decimal.{decimalWith, decimal}
 use Rattle.literal.specs.Limits.{source, plain}
 use Rattle.literal.specs.Literal.{mostKind, kind, tagField, atomField, encoded, negatedKind, ranged, takes, signedAtom, spelled, within, decoded, opposite}
-use Rattle.literal.specs.Order.{bytesBefore, key, before}
+use Rattle.literal.specs.Order.{bytesBefore, key, before, inserted, sorted}
+use Rattle.semantics.specs.Rule.{head, positive, naf}
 use Rattle.semantics.specs.Meaning.{undefeated, unlessEmpty, remainder, withRemainder, quotient, holds, satisfied, models}
 use Rattle.semantics.specs.Translation.{choice, allDefeated, holdsIfDerived, derivedIfHolds, neverBoth, option, options, translatedRule, translationFrom, translation}
 use Rattle.semantics.specs.Extension.{defeatedRule}
@@ -21,8 +23,14 @@ use Rattle.set.specs.Layout.{encodedSet}
 use Rattle.set.specs.Reading.{membersAt, setShape, parsedSet}
 use Rattle.inputs.specs.Inputs.{withInputs}
 use Rattle.translate.specs.Translate.{translatedBytes, translated}
+use Rattle.aspif_meaning.specs.Numbering.{ruleLiterals, occurring, literals, numberOf}
+use Rattle.aspif_meaning.specs.Program.{numbered, neverBoth as neverBothNumbers, constraintsOf, constraintsFrom, constraints, groundWith, ground}
+use Rattle.aspif_meaning.specs.Program.{namesOf, namesWith, names}
+use Rattle.aspif_text.specs.Text.{field, fields, bodyText, ruleLine, outputLine, line, lines, firstLine, lastLine, textOf}
+use Rattle.aspif_text.specs.Text.{nameText, outputOf, statements, aspifText}
+use Rattle.aspif.specs.Aspif.{aspifBytes, exported}
 use Rattle.extend_marks.specs.Marks.{derivedMarks, ruleMarks, marksFrom}
-use Rattle.extend.specs.Extend.{inserted, sorted, extensionList, extensionBytes, extended}
+use Rattle.extend.specs.Extend.{extensionList, extensionBytes, extended}
 use Rattle.check_set.specs.Verdict.{verdictOf, witness}
 use Rattle.check_set.specs.Check.{found, checkedOf, checked}
 use Rattle.filter_print.specs.Filter.{inputSize, printed, filtered}
@@ -32,7 +40,7 @@ exactly-four : T (exactly m3 m3-literals m3-answer-sets)
 unfolding exactly
 exactly-four = tt
 
--- M1 to M9
+-- M1 to M9, and Ask 1's
 pub examples-hold : AllSay examples
 unfolding Says examples write source plain kind tagField atomField encoded negatedKind ranged mostKind takes signedAtom spelled within
     decoded opposite bytesBefore key before undefeated unlessEmpty remainder withRemainder quotient holds satisfied models choice
@@ -41,7 +49,9 @@ unfolding Says examples write source plain kind tagField atomField encoded negat
     encodedLiterals ruleRecord encodedRule encodedRules encodedEnd encodedProgram literalsAt optionsOf defeasibleRule ruleOf tagRight bodyAt
     ruleAt endAt marked pickMark markAt markedRecord recordAt rulesFrom parsed encodedSet membersAt setShape parsedSet translatedBytes
     translated inputSize printed filtered derivedMarks ruleMarks marksFrom inserted sorted extensionList withInputs extensionBytes extended
-    found verdictOf witness checkedOf checked
+    found verdictOf witness checkedOf checked head positive naf decimalWith decimal ruleLiterals occurring literals numberOf numbered
+    neverBothNumbers constraintsOf constraintsFrom constraints groundWith ground namesOf namesWith names field fields bodyText ruleLine
+    outputLine line lines firstLine lastLine textOf nameText outputOf statements aspifText aspifBytes exported
 examples-hold = (
   refl,
   (
@@ -54,7 +64,7 @@ examples-hold = (
         translation-rules = refl;
         exactly = exactly-within m3 m3-literals m3-answer-sets exactly-four;
       },
-      (refl, (refl, ((refl, refl), ((refl, refl), ((refl, refl), ((refl, refl), ((refl, refl), tt))))))),
+      (refl, (refl, ((refl, refl), ((refl, refl), ((refl, refl), ((refl, refl), ((refl, refl), (refl, (refl, (refl, tt)))))))))),
     ),
   ),
 )

@@ -1,4 +1,5 @@
--- Document 01's marked examples, M1 to M9, as one list, and what each says. `proofs/Examples.antt` proves them all.
+-- Document 01's marked examples, M1 to M9, and document 02's of Ask 1, as one list, and what each says. `proofs/Examples.antt`
+-- proves them all.
 -- In order: how an example is written; what it says; the examples.
 -- Assumes nothing.
 use Prim.Native.Nat.{ℕ}
@@ -21,6 +22,7 @@ use Rattle.record.specs.Result.{accepted}
 use Rattle.record.specs.Layout.{encodedProgram}
 use Rattle.record.specs.Reading.{parsed}
 use Rattle.set.specs.Layout.{encodedSet}
+use Rattle.aspif.specs.Aspif.{exported}
 use Rattle.extend.specs.Extend.{extended}
 use Rattle.check_set.specs.declared.Verdict.{Verdict}
 use Rattle.check_set.specs.declared.Verdict.the-variants.{Clash, Broken, Smaller, Yes}
@@ -29,12 +31,14 @@ use Rattle.check_set.specs.Check.{checked}
 use Rattle.filter_print.specs.Filter.{filtered}
 
 -- an example: what the filter writes for an input; a program, its bytes, its translation's bytes and rules, and its
--- answer sets over some literals; the extension of a set; the verdict on a set, with what the output slice holds then
+-- answer sets over some literals; the extension of a set; the verdict on a set, with what the output slice holds then; the
+-- aspif text of a plain program, and how many bytes it has
 pub data Example : Type 0 where
   filter : List ℕ → List ℕ → Example
   answers : Program → ℕ → ℕ → ℕ → List Literal → List (List Literal) → Example
   extension : Program → List Literal → List Literal → Example
   check : List ℕ → List Literal → Verdict → List ℕ → Example
+  exports : Program → ℕ → List ℕ → Example
 
 -- a program's bytes are read back as the program and have this length, and so many bytes and rules has its translation;
 -- of all sets over these literals, exactly these are answer sets
@@ -50,7 +54,7 @@ abbrev pub Checks : Limits → List ℕ → List Literal → Verdict → List �
 Checks F s ls v out =
     checked F s (encodedSet ls) (replicate (length (encodedSet ls)) 0) ≡ record { answer = Found v; buffer = out }
 
--- what an example says. An extension fills an output slice of its own length; a check says the same in both forms
+-- what an example says. An extension and a text fill an output slice of their own length; a check says the same in both forms
 unfoldable pub Says : Example → Type 0
 Says (filter input output) = filtered input ≡ output
 Says (answers p bytes translated rules over sets) = Answers p bytes translated rules over sets
@@ -58,6 +62,7 @@ Says (extension p ls ms) =
     extended source (encodedProgram p) (encodedSet ls) (replicate (length (encodedSet ms)) 0)
     ≡ record { answer = Length (length (encodedSet ms)); buffer = encodedSet ms }
 Says (check s ls v out) = Checks source s ls v out × Checks plain s ls v out
+Says (exports p n text) = exported plain (encodedProgram p) (replicate n 0) ≡ record { answer = Length n; buffer = text }
 
 -- atoms, negated atoms and marks by their numbers
 abbrev pub atom : ℕ → SignedAtom
@@ -113,6 +118,30 @@ m1-output =
     ++ ((0x53 ∷ 0x3A ∷ 0x00 ∷ 0x00 ∷ 0x00 ∷ 0x02 ∷ 0x00 ∷ 0x04 ∷ 0x00 ∷ 0x07 ∷ 0x00 ∷ 0x01 ∷ 0x02 ∷ 0x00 ∷ 0x07 ∷ 0x00 ∷ 0x01 ∷ [])
     ++ ((0x45 ∷ 0x3A ∷ 0x00 ∷ 0x05 ∷ []))))))
 
+-- the texts of Ask 1's example, of no rules, and of the facts 1 and negated 1, line by line
+abbrev pub first-line : List ℕ
+first-line = 0x61 ∷ 0x73 ∷ 0x70 ∷ 0x20 ∷ 0x31 ∷ 0x20 ∷ 0x30 ∷ 0x20 ∷ 0x30 ∷ 0x0A ∷ []
+
+abbrev pub last-line : List ℕ
+last-line = 0x30 ∷ 0x0A ∷ []
+
+abbrev pub fact-text : List ℕ
+fact-text =
+    first-line
+    ++ ((0x31 ∷ 0x20 ∷ 0x30 ∷ 0x20 ∷ 0x31 ∷ 0x20 ∷ 0x31 ∷ 0x20 ∷ 0x30 ∷ 0x20 ∷ 0x30 ∷ 0x0A ∷ [])
+    ++ ((0x34 ∷ 0x20 ∷ 0x32 ∷ 0x20 ∷ 0x70 ∷ 0x31 ∷ 0x20 ∷ 0x31 ∷ 0x20 ∷ 0x31 ∷ 0x0A ∷ [])
+    ++ last-line))
+
+abbrev pub clash-text : List ℕ
+clash-text =
+    first-line
+    ++ ((0x31 ∷ 0x20 ∷ 0x30 ∷ 0x20 ∷ 0x31 ∷ 0x20 ∷ 0x31 ∷ 0x20 ∷ 0x30 ∷ 0x20 ∷ 0x30 ∷ 0x0A ∷ [])
+    ++ ((0x31 ∷ 0x20 ∷ 0x30 ∷ 0x20 ∷ 0x31 ∷ 0x20 ∷ 0x32 ∷ 0x20 ∷ 0x30 ∷ 0x20 ∷ 0x30 ∷ 0x0A ∷ [])
+    ++ ((0x31 ∷ 0x20 ∷ 0x30 ∷ 0x20 ∷ 0x30 ∷ 0x20 ∷ 0x30 ∷ 0x20 ∷ 0x32 ∷ 0x20 ∷ 0x31 ∷ 0x20 ∷ 0x32 ∷ 0x0A ∷ [])
+    ++ ((0x34 ∷ 0x20 ∷ 0x32 ∷ 0x20 ∷ 0x70 ∷ 0x31 ∷ 0x20 ∷ 0x31 ∷ 0x20 ∷ 0x31 ∷ 0x0A ∷ [])
+    ++ ((0x34 ∷ 0x20 ∷ 0x32 ∷ 0x20 ∷ 0x6E ∷ 0x31 ∷ 0x20 ∷ 0x31 ∷ 0x20 ∷ 0x32 ∷ 0x0A ∷ [])
+    ++ last-line)))))
+
 -- the marked examples
 unfoldable pub examples : List Example
 examples =
@@ -135,7 +164,11 @@ examples =
     check (encodedProgram (so [] [] ∷ [])) [] (Broken (record { 0 = 1 })) (replicate 4 0) ∷
     -- M9
     check (0x45 ∷ 0x3A ∷ 0 ∷ 0 ∷ []) [] Yes (replicate 4 0) ∷
-    check (0x45 ∷ 0x3A ∷ 0 ∷ 0 ∷ []) (is 1 ∷ []) (Smaller 4) (encodedSet [] ++ replicate 5 0) ∷ []
+    check (0x45 ∷ 0x3A ∷ 0 ∷ 0 ∷ []) (is 1 ∷ []) (Smaller 4) (encodedSet [] ++ replicate 5 0) ∷
+    -- Ask 1
+    exports (so (is 1 ∷ []) [] ∷ []) 35 fact-text ∷
+    exports [] 12 (first-line ++ last-line) ∷
+    exports (so (is 1 ∷ []) [] ∷ so (isNot 1 ∷ []) [] ∷ []) 72 clash-text ∷ []
 
 -- each example says what holds
 abbrev pub AllSay : List Example → Type 0

@@ -2,3 +2,4 @@ pub mod Bytes
 pub mod Write
 pub mod Next
 pub mod Before
+pub mod Writing

@@ -2,9 +2,15 @@
 -- Not here: what is written (each operation's own definitions).
 -- Assumes nothing.
 use Prim.Native.Nat.{ℕ, _+_}
+use mathlib.Core.Path.{_≡_}
 use mathlib.Core.List.{List, _++_}
 use lib.ListN.{length, take, drop}
 
 -- d with bs in place of as many elements from `at` on
 unfoldable pub write : List ℕ → ℕ → List ℕ → List ℕ
 write d at bs = take at d ++ (bs ++ drop (at + length bs) d)
+
+-- a slice d became e: bs was written from `at` on, and what follows is written from r on
+pub record Wrote (d e : List ℕ) (at : ℕ) (bs : List ℕ) (r : ℕ) : Type 0 where
+  pub bytes : e ≡ write d at bs
+  pub next : r ≡ at + length bs

@@ -1,10 +1,10 @@
 // The positions of literals in a set of at most 64: a mask for each literal, and the union of several.
 
 use crate::Positions;
-use check_mask::single_at;
 use literal::Literal;
 use literal_fields::order::key_at;
 use literal_fields::order::key_of;
+use mask::single_at;
 use set::search::place_of;
 ghost use Prim.Native.Nat.{_+_, _*_, _≤_};
 ghost use mathlib.Core.Path.{_≡_};

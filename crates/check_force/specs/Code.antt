@@ -16,7 +16,7 @@ use lib.ListN.{getD, length}
 use Rattle.literal.specs.declared.Literal.{Literal}
 use Rattle.semantics.specs.Set.{eachOf, sameLiteral, setOf}
 use Rattle.semantics.specs.Rule.{Remainder}
-use Rattle.check_mask.specs.Code.{has, Within, Apart}
+use Rattle.mask.specs.Code.{has, Within, Apart}
 use Rattle.check_force.specs.declared.Bounds.{Bounds}
 
 -- x has each position that it must have, and no position but those that it may have

@@ -1,10 +1,10 @@
 // What the clauses force on two bounds.
 
 use crate::Bounds;
-use check_mask::without_lowest;
+use mask::without_lowest;
 ghost use Prim.Native.Nat.{_≤_};
 ghost use lib.ListN.{length};
-ghost use Rattle.check_mask.specs.Code.{Within};
+ghost use Rattle.mask.specs.Code.{Within};
 ghost use Rattle.check_force.specs.Code.{Holds, Model, Settled, Quiet, Narrowed, Propagated};
 
 // What one clause forces: its last open head literal, where the body is present; the absence of its last open body

@@ -3,12 +3,12 @@
 use crate::Tally;
 use crate::count::add;
 use crate::count::most;
-use check_mask::highest;
-use check_mask::without_lowest;
+use mask::highest;
+use mask::without_lowest;
 ghost use Prim.Native.Nat.{_≤_, _<_};
 ghost use lib.Bits.{bitXor};
 ghost use lib.ListN.{length};
-ghost use Rattle.check_mask.specs.Code.{Position};
+ghost use Rattle.mask.specs.Code.{Position};
 
 // An open literal: one that stands most often in clauses with two open literals, and of those one that stands most often in
 // longer ones. So clauses become short soon, and a dead end shows early; any open literal would do.

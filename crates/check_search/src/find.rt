@@ -3,12 +3,12 @@
 
 use crate::Found;
 use check_force::force::propagate;
-use check_mask::highest;
 use check_pick::pick::pick;
+use mask::highest;
 ghost use Prim.Native.Nat.{_≤_};
 ghost use mathlib.Core.Path.{_≡_};
 ghost use lib.ListN.{length};
-ghost use Rattle.check_mask.specs.Code.{Within};
+ghost use Rattle.mask.specs.Code.{Within};
 ghost use Rattle.check_force.specs.Code.{Model, Settled, Smaller};
 ghost use Rattle.check_search.specs.Code.{Candidate, Any, First};
 

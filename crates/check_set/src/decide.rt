@@ -1,9 +1,9 @@
 // The end of a check: a set without a clash in which each rule holds has a smaller model, or is an answer set.
 
 use crate::Verdict;
-use check_mask::all_below;
 use check_search::find::find_smaller;
 use check_witness::witness::write_picked;
+use mask::all_below;
 ghost use Prim.Native.Nat.{_+_, _*_, _≤_};
 ghost use lib.ListN.{length};
 ghost use Rattle.check_set.specs.Code.{Decided};

@@ -5,8 +5,8 @@ use Prim.Native.Nat.{ℕ, zero, suc, _+_, _/_}
 use mathlib.Core.Bool.{cond}
 use mathlib.Core.List.{List, [], _++_}
 use lib.ListN.{length, take, drop}
+use Rattle.mask.specs.Code.{has}
 use Rattle.set.specs.Code.{setHeader}
-use Rattle.check_mask.specs.Code.{has}
 
 -- the bytes of the literal of position i, where x has it
 unfoldable pub pickedOne : ℕ → ℕ → List ℕ → List ℕ

@@ -1,6 +1,6 @@
 // The part of a set that a mask of positions picks, as an A: record.
 
-use check_mask::is_in;
+use mask::is_in;
 use record_write::copy::copy;
 use set::header::write_set_header;
 ghost use Prim.Native.Nat.{_+_, _*_, _≤_, _<_};

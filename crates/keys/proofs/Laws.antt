@@ -1,3 +1,4 @@
 pub mod Members
 pub mod Sorted
 pub mod Bytes
+pub mod Literals

@@ -25,11 +25,11 @@ abbrev pub eachOf {ℓ} : {A : Type ℓ} → (A → Bool) → List A → Bool
 eachOf f [] = true
 eachOf f (x ∷ xs) = f x && eachOf f xs
 
--- each literal of u is one of s; and s has one more
-abbrev pub Subset : LiteralSet → LiteralSet → Type 0
-Subset u s = (l : Literal) → T (u l) → T (s l)
+-- each element of u is one of s; and s has one more
+abbrev pub Subset : {A : Type 0} → (A → Bool) → (A → Bool) → Type 0
+Subset {A} u s = (x : A) → T (u x) → T (s x)
 
-pub record ProperSubset (u s : LiteralSet) : Type 0 where
+pub record ProperSubset {A : Type 0} (u s : A → Bool) : Type 0 where
   pub subset : Subset u s
   pub differs : u ≡ s → ⊥
 

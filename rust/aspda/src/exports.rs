@@ -16,6 +16,7 @@ extern "C" {
     fn aspda_read_source(p: *const u8, n: usize) -> u64;
     fn aspda_read_plain(p: *const u8, n: usize) -> u64;
     fn aspda_translate(p: *const u8, n: usize, out: *mut u8, m: usize) -> u64;
+    fn aspda_aspif(p: *const u8, n: usize, out: *mut u8, m: usize) -> u64;
     fn aspda_quotient_source(p: *const u8, n: usize, s: *const u8, k: usize, out: *mut u8, m: usize) -> u64;
     fn aspda_quotient_plain(p: *const u8, n: usize, s: *const u8, k: usize, out: *mut u8, m: usize) -> u64;
     fn aspda_extend(p: *const u8, n: usize, s: *const u8, k: usize, out: *mut u8, m: usize) -> u64;
@@ -52,6 +53,10 @@ pub fn read_plain(program: &[u8]) -> u64 {
 
 pub fn translate(source: &[u8], out: &mut [u8]) -> u64 {
     on_slice(aspda_translate, source, out)
+}
+
+pub fn aspif(program: &[u8], out: &mut [u8]) -> u64 {
+    on_slice(aspda_aspif, program, out)
 }
 
 pub fn quotient_source(program: &[u8], set: &[u8], out: &mut [u8]) -> u64 {

@@ -11,6 +11,7 @@
 //! | number of rules | [`read_source`], [`read_plain`] | |
 //! | a rule's record | [`show_source`], [`show_plain`] | |
 //! | translation | [`translate`] | [`translation_bound`] |
+//! | a plain program as text for a solver | [`aspif`] | [`aspif_bound`] |
 //! | quotient by a set | [`quotient_source`], [`quotient_plain`] | [`quotient_bound`] |
 //! | extension of a source's set | [`extend`] | [`EXTENSION_BOUND`] |
 //! | restriction of a plain set | [`restrict`] | [`restriction_bound`] |
@@ -152,6 +153,39 @@ pub fn translation_bound(source: &[u8]) -> usize {
 /// Refusals 1 to 9.
 pub fn translate<'o>(source: &[u8], out: &'o mut [u8]) -> Result<&'o mut [u8], Refusal> {
     written(Operation::Translate, exports::translate(source, out), out)
+}
+
+/// The length of a buffer that suffices for the text in aspif of a plain program of so many bytes.
+///
+/// ```
+/// const BOUND: usize = aspda::aspif_bound(16);
+/// assert_eq!(BOUND, 29_044);
+/// ```
+pub const fn aspif_bound(length: usize) -> usize {
+    length.saturating_mul(2).saturating_add(29_012)
+}
+
+/// Writes a plain program as a text in aspif, which clingo and clasp read. [`aspif_bound`] gives a length that suffices.
+///
+/// A literal's number is its place among the literals that occur, ascending as byte strings, from 1. Atoms and negated
+/// atoms have a name, `p` or `n` with the atom in decimal; marks have none. The answer sets of the text are those of the
+/// program, number for number. It uses about 80 KiB of stack.
+///
+/// ```
+/// let fact = b"S:\0\0\x01\0\0\0\0\0\0\x01E:\0\x01"; // 1
+/// let mut out = [0xAA; aspda::aspif_bound(16)];
+/// assert_eq!(aspda::aspif(fact, &mut out)?, b"asp 1 0 0\n1 0 1 1 0 0\n4 2 p1 1 1\n0\n");
+/// assert_eq!(out[35], 0xAA);
+///
+/// // 34 bytes are one too few.
+/// assert_eq!(aspda::aspif(fact, &mut out[..34]).unwrap_err().number, 9);
+/// # Ok::<(), aspda::Refusal>(())
+/// ```
+///
+/// # Errors
+/// Refusals 1 to 6, 8 and 9.
+pub fn aspif<'o>(program: &[u8], out: &'o mut [u8]) -> Result<&'o mut [u8], Refusal> {
+    written(Operation::Aspif, exports::aspif(program, out), out)
 }
 
 /// The length of a buffer that suffices for a quotient: the program's.

@@ -31,6 +31,7 @@ pub(crate) enum Operation {
     Read,
     Show,
     Translate,
+    Aspif,
     Quotient,
     Extend,
     Restrict,
@@ -43,14 +44,14 @@ impl Operation {
         Refusal { number, slice: self.slice(number), place }
     }
 
-    /// The slice that a number speaks of: document 01, "Operations and what each refuses".
+    /// The slice that a number speaks of: document 01, "Operations and what each refuses"; document 02, ask 1.
     fn slice(self, number: u8) -> Slice {
         use Operation::*;
         match (self, number) {
-            (Translate | Quotient | Extend | Restrict | Check, 9) => Slice::Output,
+            (Translate | Aspif | Quotient | Extend | Restrict | Check, 9) => Slice::Output,
             (Quotient | Extend | Check, 10..=12) | (Restrict, _) => Slice::Set,
             // 1 to 8; and 13, for it is the program that has no such rule.
-            (Read | Show | Translate | Quotient | Extend | Check, _) => Slice::Program,
+            (Read | Show | Translate | Aspif | Quotient | Extend | Check, _) => Slice::Program,
         }
     }
 }
@@ -63,7 +64,7 @@ impl Operation {
 /// | 2, 3, 4, 6, 8 | program | record | all but restrict |
 /// | 5 | program | literal | all but restrict |
 /// | 7 | program | record | all on sources |
-/// | 9 | output | whole | translate, quotient, extend, restrict, check |
+/// | 9 | output | whole | translate, aspif, quotient, extend, restrict, check |
 /// | 10, 12 | set | whole | quotient, extend, restrict, check |
 /// | 11 | set | literal | quotient, extend, restrict, check |
 /// | 13 | program | whole | show |

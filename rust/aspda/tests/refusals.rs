@@ -49,13 +49,14 @@ fn operation(name: &'static str, numbers: [&'static [u8]; 3], literals: usize, c
 }
 
 #[rustfmt::skip]
-fn operations() -> [Operation; 11] {
+fn operations() -> [Operation; 12] {
     [
         operation("read_source", [READ_SOURCE, NONE, NONE], 0, |i, _| aspda::read_source(i.program).map(drop)),
         operation("read_plain", [READ_PLAIN, NONE, NONE], 0, |i, _| aspda::read_plain(i.program).map(drop)),
         operation("show_source", [SHOW_SOURCE, NONE, NONE], 0, |i, _| aspda::show_source(i.program, i.rule).map(drop)),
         operation("show_plain", [SHOW_PLAIN, NONE, NONE], 0, |i, _| aspda::show_plain(i.program, i.rule).map(drop)),
         operation("translate", [READ_SOURCE, NONE, OUTPUT], 0, |i, out| aspda::translate(i.program, out).map(drop)),
+        operation("aspif", [READ_PLAIN, NONE, OUTPUT], 0, |i, out| aspda::aspif(i.program, out).map(drop)),
         operation("quotient_source", [READ_SOURCE, SET, OUTPUT], SOURCE.set, |i, out| {
             aspda::quotient_source(i.program, i.set, out).map(drop)
         }),
@@ -155,7 +156,7 @@ fn numbers_1_to_8_and_13_speak_of_the_program() {
             operation.refuses(&all_wrong, number, Slice::Program, wrong);
         }
     }
-    assert_eq!(reached, 8 + 7 + 9 + 8 + 8 + 8 + 7 + 8 + 8 + 7);
+    assert_eq!(reached, 8 + 7 + 9 + 8 + 8 + 7 + 8 + 7 + 8 + 8 + 7);
 }
 
 #[test]
@@ -182,6 +183,7 @@ fn number_9_speaks_of_the_output() {
             // The result's length, of a check the set's.
             let least = match operation.name {
                 "translate" | "quotient_source" | "quotient_plain" => ONE.len(),
+                "aspif" => "asp 1 0 0\n1 0 1 1 0 0\n4 2 p1 1 1\n0\n".len(),
                 _ => EMPTY.len(),
             };
             assert_eq!(operation.refusal(&Inputs { room: least, ..ACCEPTED }), None, "{}", operation.name);
@@ -190,7 +192,7 @@ fn number_9_speaks_of_the_output() {
             }
         }
     }
-    assert_eq!(reached, 7);
+    assert_eq!(reached, 8);
 }
 
 #[test]
@@ -204,6 +206,25 @@ fn limits_are_those_of_the_form() {
     let mut out = vec![0; set.len()];
     assert_eq!(aspda::check_source(ONE, &set, &mut out).unwrap_err().number, 12);
     assert_eq!(aspda::restrict(&set, &mut out).unwrap(), &set[..]);
+}
+
+#[test]
+fn the_bound_of_a_text_suffices() {
+    assert_eq!(aspda::aspif_bound(usize::MAX), usize::MAX);
+    // Each atom both ways, each in a rule of its own: the most names and constraints there are.
+    let mut program = Vec::new();
+    for atom in 1..=PLAIN.atoms {
+        for kind in [0, 1] {
+            program.extend(b"S:\0\0\x01\0\0");
+            program.extend([kind, 0, 0, (atom >> 8) as u8, atom as u8]);
+        }
+    }
+    program.extend(b"E:");
+    program.extend((2 * PLAIN.atoms).to_be_bytes());
+    let mut out = vec![0; aspda::aspif_bound(program.len())];
+    let text = aspda::aspif(&program, &mut out).unwrap();
+    let lines = text.iter().filter(|byte| **byte == b'\n').count();
+    assert_eq!(lines, 2 + (2 + 1 + 2) * PLAIN.atoms as usize);
 }
 
 #[test]

@@ -14,7 +14,19 @@ pub enum Operation {
     Restrict,
     Check,
     Convert,
+    Aspif,
 }
+
+/// Why there is no result, in words, and the exit status that tells it.
+pub struct Failure {
+    pub message: String,
+    pub status: u8,
+}
+
+/// The exit status of the commands of document 01 where there is no result, and that of later ones: a no of theirs could be
+/// told from a refusal.
+const NO_RESULT: u8 = 1;
+const REFUSED_OR_MISUSED: u8 = 2;
 
 /// A command, and what it takes.
 struct Command {
@@ -24,6 +36,8 @@ struct Command {
     plain: bool,
     operands: &'static [&'static str],
     output: Output,
+    /// The exit status where there is no result.
+    failure: u8,
     /// One line for the list of commands.
     about: &'static str,
     /// What its own help adds.
@@ -38,13 +52,14 @@ enum Output {
     Required,
 }
 
-const COMMANDS: [Command; 8] = [
+const COMMANDS: [Command; 9] = [
     Command {
         name: "read",
         operation: Operation::Read,
         plain: true,
         operands: &["PROGRAM"],
         output: Output::None,
+        failure: NO_RESULT,
         about: "the number of rules and bytes",
         details: "Reads a program and prints how many rules and bytes it has, or says why it is refused.",
     },
@@ -54,6 +69,7 @@ const COMMANDS: [Command; 8] = [
         plain: true,
         operands: &["PROGRAM", "RULE"],
         output: Output::None,
+        failure: NO_RESULT,
         about: "a rule as text, and where its record lies",
         details: "Prints the rule of that number, counted from 1, and where its record lies in the program's bytes.",
     },
@@ -63,6 +79,7 @@ const COMMANDS: [Command; 8] = [
         plain: false,
         operands: &["SOURCE"],
         output: Output::Optional,
+        failure: NO_RESULT,
         about: "the plain program that a source is translated into",
         details: "Translates a source. Each answer set of the source is the restriction of exactly one answer set of\n\
                   the result, and the other way round by extension.",
@@ -73,6 +90,7 @@ const COMMANDS: [Command; 8] = [
         plain: true,
         operands: &["PROGRAM", "SET"],
         output: Output::Optional,
+        failure: NO_RESULT,
         about: "what is left of a program for a set",
         details: "Gives the quotient of the program by the set: its rules without naf literals and tags, less those\n\
                   that the set removes.",
@@ -83,6 +101,7 @@ const COMMANDS: [Command; 8] = [
         plain: false,
         operands: &["SOURCE", "SET"],
         output: Output::Optional,
+        failure: NO_RESULT,
         about: "a source's set with its derivation and rule-defeated marks",
         details: "Gives the extension of the set: a set of the source's translation.",
     },
@@ -92,6 +111,7 @@ const COMMANDS: [Command; 8] = [
         plain: false,
         operands: &["SET"],
         output: Output::Optional,
+        failure: NO_RESULT,
         about: "a plain set without its derivation and rule-defeated marks",
         details: "Gives the restriction of the set: a set of the source.",
     },
@@ -101,6 +121,7 @@ const COMMANDS: [Command; 8] = [
         plain: true,
         operands: &["PROGRAM", "SET"],
         output: Output::Optional,
+        failure: NO_RESULT,
         about: "whether a set is an answer set of a program",
         details: "Prints the verdict, its name first:\n\
                   \x20 yes      the set is an answer set; the exit status is 0 for this verdict alone\n\
@@ -115,16 +136,34 @@ const COMMANDS: [Command; 8] = [
         plain: true,
         operands: &["IN"],
         output: Output::Required,
+        failure: NO_RESULT,
         about: "text to bytes or bytes to text",
         details: "Converts a program or a set into the form that OUT's name asks for, if the library takes it.",
+    },
+    Command {
+        name: "aspif",
+        operation: Operation::Aspif,
+        plain: false,
+        operands: &["PROGRAM"],
+        output: Output::Optional,
+        failure: REFUSED_OR_MISUSED,
+        about: "a plain program as text for clingo and clasp",
+        details:
+            "Writes a plain program as aspif, the text form that the solvers of the clingo family read; a source is\n\
+                  translated first. Its answer sets are the program's, number for number: a literal's number is its\n\
+                  place among those that occur, ascending as byte strings. p12 names atom 12 and n12 its explicit\n\
+                  negation; marks have no name. From a source to its answer sets:\n\
+                  \x20 aspda translate SOURCE -o - | aspda aspif - | clingo --mode=clasp --no-gamma --eq=0 0\n\
+                  The text is the same in a FILE of any name. The exit status is 0 if the text was written, else 2.",
     },
 ];
 
 const FILES: &str = "\
 A file whose name ends in .txt holds text, every other file holds bytes. A SET may be written in place,
 as '{1, -2}'. With -o FILE the result goes to FILE, as text if its name ends in .txt, else as bytes;
-without -o it is listed on standard output. --plain: the program is a plain one, not a source.
-The exit status is 0 if the operation gave its result (check: yes), else 1.
+without -o it is listed on standard output. `-` in place of a file is standard input, behind -o
+standard output, and holds bytes. --plain: the program is a plain one, not a source.
+The exit status is 0 if the operation gave its result (check: yes), else 1, of aspif else 2.
 ";
 
 const TEXT: &str = "\
@@ -146,6 +185,8 @@ pub struct Request {
     pub is_plain: bool,
     pub operands: Vec<OsString>,
     pub output: Option<PathBuf>,
+    /// The exit status where there is no result.
+    pub failure: u8,
 }
 
 /// A request, or a text to print instead: help is no failure.
@@ -155,21 +196,23 @@ pub enum Asked {
 }
 
 /// Reads the arguments behind the program's own name, or says what is wrong with them.
-pub fn parse(arguments: Vec<OsString>) -> Result<Asked, String> {
+pub fn parse(arguments: Vec<OsString>) -> Result<Asked, Failure> {
+    let no_command = |message| Failure { message, status: NO_RESULT };
     let mut rest = arguments.into_iter();
-    let first = rest.next().ok_or("no command given; see aspda --help")?;
+    let first = rest.next().ok_or_else(|| no_command("no command given; see aspda --help".to_owned()))?;
     if is_help(&first) {
         return Ok(Asked::Help(help()));
     }
     let command = COMMANDS
         .iter()
         .find(|command| first == command.name)
-        .ok_or_else(|| format!("there is no command `{}`; see aspda --help", first.to_string_lossy()))?;
+        .ok_or_else(|| no_command(format!("there is no command `{}`; see aspda --help", first.to_string_lossy())))?;
     let rest: Vec<_> = rest.collect();
     if rest.iter().any(|argument| is_help(argument)) {
         return Ok(Asked::Help(command.help()));
     }
-    command.request(rest).map(Asked::Run)
+    let request = command.request(rest);
+    request.map(Asked::Run).map_err(|message| Failure { message, status: command.failure })
 }
 
 fn is_help(argument: &OsStr) -> bool {
@@ -200,7 +243,8 @@ impl Command {
     }
 
     fn request(&self, arguments: Vec<OsString>) -> Result<Request, String> {
-        let mut request = Request { operation: self.operation, is_plain: false, operands: Vec::new(), output: None };
+        let Command { operation, failure, .. } = *self;
+        let mut request = Request { operation, is_plain: false, operands: Vec::new(), output: None, failure };
         let mut rest = arguments.into_iter();
         while let Some(argument) = rest.next() {
             if argument == "--plain" && self.plain {
@@ -208,7 +252,7 @@ impl Command {
             } else if argument == "-o" && self.output != Output::None && request.output.is_none() {
                 let file = rest.next().ok_or_else(|| self.wrong("-o needs a file behind it"))?;
                 request.output = Some(file.into());
-            } else if argument.to_string_lossy().starts_with('-') {
+            } else if argument.to_string_lossy().starts_with('-') && argument != "-" {
                 return Err(self.wrong(&format!("`{}` has no place here", argument.to_string_lossy())));
             } else {
                 request.operands.push(argument);

@@ -2,19 +2,20 @@
 
 use crate::arguments::{Operation, Request};
 use crate::files::{self, Either, Program, Set};
+use crate::limits::{Limits, PLAIN};
 use crate::text::{self, Names};
 use aspda::{Refusal, Slice, Verdict};
 
 /// What goes to standard output, and whether the exit status is 0.
 pub struct Outcome {
-    pub text: String,
+    pub output: Vec<u8>,
     pub is_success: bool,
 }
 
 type Answer = Result<Outcome, String>;
 
-fn success(text: String) -> Answer {
-    Ok(Outcome { text, is_success: true })
+fn success(output: impl Into<Vec<u8>>) -> Answer {
+    Ok(Outcome { output: output.into(), is_success: true })
 }
 
 pub fn run(request: &Request) -> Answer {
@@ -27,6 +28,7 @@ pub fn run(request: &Request) -> Answer {
         Operation::Restrict => restrict(request),
         Operation::Check => check(request),
         Operation::Convert => convert(request),
+        Operation::Aspif => aspif(request),
     }
 }
 
@@ -108,6 +110,7 @@ fn list_set(bytes: &[u8], names: &Names) -> String {
 fn deliver(request: &Request, bytes: &[u8], listing: impl FnOnce() -> String) -> Answer {
     match &request.output {
         None => success(listing()),
+        Some(file) if files::is_standard(file) => success(bytes),
         Some(file) => {
             files::save(file, bytes, listing)?;
             success(String::new())
@@ -168,6 +171,9 @@ fn restrict(request: &Request) -> Answer {
 }
 
 fn check(request: &Request) -> Answer {
+    if matches!(&request.output, Some(file) if files::is_standard(file)) {
+        return Err("standard output has the verdict; -o needs a file behind it".to_owned());
+    }
     let (program, set) = program_and_set(request)?;
     let form = Form::of(request);
     let mut out = vec![0; aspda::witness_bound(&set.bytes)];
@@ -183,7 +189,7 @@ fn check(request: &Request) -> Answer {
             format!("smaller: this proper subset is a model of the quotient too\n{listed}")
         }
     };
-    Ok(Outcome { text, is_success: verdict == Verdict::Yes })
+    Ok(Outcome { output: text.into(), is_success: verdict == Verdict::Yes })
 }
 
 fn clash(position: u32, set: &Set, names: &Names) -> String {
@@ -213,4 +219,39 @@ fn convert(request: &Request) -> Answer {
             deliver_set(request, &set.bytes, &Names::default())
         }
     }
+}
+
+fn aspif(request: &Request) -> Answer {
+    let program = files::load_program(&request.operands[0])?;
+    let refused = |refusal: Refusal| match passed_limit(refusal, &PLAIN) {
+        Some(limit) => format!("{}; {limit}", program.refused(refusal)),
+        None => program.refused(refusal),
+    };
+    // Read first: a file of any length is refused before a buffer is made for it.
+    aspda::read_plain(&program.bytes).map_err(refused)?;
+    let mut out = vec![0; aspda::aspif_bound(program.bytes.len())];
+    let text = aspda::aspif(&program.bytes, &mut out).map_err(refused)?;
+    match &request.output {
+        Some(file) if !files::is_standard(file) => {
+            files::write(file, text)?;
+            success("")
+        }
+        _ => success(&*text),
+    }
+}
+
+/// What a plain program may have at most, where that is what the refusal is about.
+fn passed_limit(refusal: Refusal, limits: &Limits) -> Option<String> {
+    let Limits { length, rules, heads, positives, nafs, atoms, tags, numbers, .. } = limits;
+    Some(match refusal.number {
+        1 => format!("a plain program has at most {length} bytes"),
+        3 => "a plain program has strict rules and its end alone, a source is translated first".to_owned(),
+        4 => format!(
+            "a plain program has at most {rules} rules, each with at most {heads} head, {positives} positive and \
+             {nafs} naf literals"
+        ),
+        5 => format!("atoms run from 1 to {atoms}, tags from 1 to {tags}, rule numbers from 1 to {numbers}"),
+        6 => "a strict rule has tag 0".to_owned(),
+        _ => return None,
+    })
 }

@@ -4,6 +4,7 @@ use crate::text::{self, Encoded, Names, Parsed};
 use aspda::{Part, Refusal};
 use std::ffi::OsStr;
 use std::fs;
+use std::io::{self, Read};
 use std::ops::Range;
 use std::path::Path;
 
@@ -42,8 +43,30 @@ fn is_text(path: &Path) -> bool {
     path.as_os_str().to_string_lossy().ends_with(".txt")
 }
 
+/// Standard input or output, in place of a file.
+pub fn is_standard(path: impl AsRef<OsStr>) -> bool {
+    path.as_ref() == "-"
+}
+
+/// What messages call an operand.
+fn name(operand: &OsStr) -> String {
+    if is_standard(operand) {
+        return "standard input".to_owned();
+    }
+    operand.to_string_lossy().into_owned()
+}
+
+fn read(path: &OsStr) -> io::Result<Vec<u8>> {
+    if !is_standard(path) {
+        return fs::read(path);
+    }
+    let mut bytes = Vec::new();
+    io::stdin().lock().read_to_end(&mut bytes)?;
+    Ok(bytes)
+}
+
 fn load(path: &OsStr) -> Result<Content, String> {
-    let bytes = fs::read(path).map_err(|error| format!("{}: {error}", path.to_string_lossy()))?;
+    let bytes = read(path).map_err(|error| format!("{}: {error}", name(path)))?;
     Ok(if is_text(Path::new(path)) {
         // Bytes that are no UTF-8 do no harm in comments, and mean nothing elsewhere.
         Content::Text(String::from_utf8_lossy(&bytes).into_owned())
@@ -61,17 +84,17 @@ fn load_or_take(operand: &OsStr) -> Result<Content, String> {
 }
 
 pub fn load_program(path: &OsStr) -> Result<Program, String> {
-    Program::new(path.to_string_lossy().into_owned(), load(path)?)
+    Program::new(name(path), load(path)?)
 }
 
 /// A set; names are those of the program that goes with it.
 pub fn load_set(operand: &OsStr, names: &Names) -> Result<Set, String> {
-    Set::new(operand.to_string_lossy().into_owned(), load_or_take(operand)?, names)
+    Set::new(name(operand), load_or_take(operand)?, names)
 }
 
 /// A program or a set, whichever the content is.
 pub fn load_either(operand: &OsStr) -> Result<Either, String> {
-    let file = operand.to_string_lossy().into_owned();
+    let file = name(operand);
     let content = load_or_take(operand)?;
     let is_set = match &content {
         Content::Text(text) => text::holds_set(text).map_err(|error| format!("{file}: {error}"))?,
@@ -85,8 +108,15 @@ pub fn load_either(operand: &OsStr) -> Result<Either, String> {
 
 /// Writes a result: as text if the file's name asks for that, else as bytes.
 pub fn save(path: &Path, bytes: &[u8], text: impl FnOnce() -> String) -> Result<(), String> {
-    let written = if is_text(path) { fs::write(path, text()) } else { fs::write(path, bytes) };
-    written.map_err(|error| format!("{}: {error}", path.display()))
+    if is_text(path) {
+        write(path, text().as_bytes())
+    } else {
+        write(path, bytes)
+    }
+}
+
+pub fn write(path: &Path, bytes: &[u8]) -> Result<(), String> {
+    fs::write(path, bytes).map_err(|error| format!("{}: {error}", path.display()))
 }
 
 impl Program {

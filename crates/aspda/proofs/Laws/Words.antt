@@ -26,6 +26,8 @@ use Rattle.set.proofs.Laws.Places.{parsed-set-placed}
 use Rattle.inputs.specs.Inputs.{withInputs}
 use Rattle.translate.specs.Translate.{translatedBytes, translated}
 use Rattle.quotient.specs.Quotient.{quotientProgram, quotientBytes, quotiented}
+use Rattle.aspif_text.specs.Text.{aspifText}
+use Rattle.aspif.specs.Aspif.{aspifBytes, exported}
 use Rattle.extend.specs.Extend.{extensionList, extensionBytes, extended}
 use Rattle.restrict.specs.Restrict.{restrictionList, restrictionBytes, restricted}
 use Rattle.aspda_word.specs.Code.{ShortReading, ShortWritten, ShortShown}
@@ -55,6 +57,12 @@ module _ (F : Limits) (small : F .length < 2147483648) (s : List ℕ) where
   translated-short out a e =
       delivered-short (translatedBytes F s) out
       (and-then-placed (F .length) (parsed F s) (λ p. accepted (encodedProgram (translation p))) (parsed-placed F s) (λ p. tt)) a e
+
+  pub exported-short : (out : List ℕ) (a : Written) → a ≡ exported F s out .answer → ShortWritten a
+  unfolding exported aspifBytes
+  exported-short out a e =
+      delivered-short (aspifBytes F s) out
+      (and-then-placed (F .length) (parsed F s) (λ p. accepted (aspifText p)) (parsed-placed F s) (λ p. tt)) a e
 
   -- a program and a set, each read in a form whose sets are no longer than its programs, and what is made of them
   made-short : 4 + 5 * F .literals ≤ F .length → (k out : List ℕ) (make : Program → List Literal → List ℕ) (a : Written)

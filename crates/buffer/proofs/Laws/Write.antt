@@ -1,5 +1,5 @@
 -- Laws of `write`, which this file and `Before` alone unfold.
--- In order: nothing written; stores as a write; what stands up to the end of a write and behind it; a write behind a write.
+-- In order: nothing written; stores as a write; what stands up to the end of a write and behind it; a write behind a write; a list's length.
 -- Assumes nothing.
 use Prim.Native.Nat.{ℕ, _+_, _≤_, _<_}
 use native.Mathlib.Nat.{add-zero, add-assoc}
@@ -7,7 +7,7 @@ use native.Mathlib.Numerals.{towards-suc}
 use native.Mathlib.Omega.{arith}
 use mathlib.Core.Path.{_≡_, sym, _∙_}
 use mathlib.Core.List.{List, [], _∷_, _++_, append-assoc}
-use lib.ListN.{length, take, drop, set, length-append, take-append-drop}
+use lib.ListN.{length, take, drop, set, length-append, length-drop, take-append-drop}
 use lib.Seq.{sets, sets-eq, take-at, drop-at, drop-drop, length-take-le}
 use Rattle.buffer.specs.Write.{write}
 
@@ -58,3 +58,10 @@ module _ (d : List ℕ) (at : ℕ) (bs : List ℕ) (within : at ≤ length d) wh
   write-write cs =
       rw (parts (write d at bs) (at + length bs) cs, take-write, drop-write, parts d at (bs ++ cs))
       (simp (append-assoc, length-append, drop-drop, add-assoc))
+
+-- a write within a list keeps its length
+pub length-write : (d : List ℕ) (at : ℕ) (bs : List ℕ) → at + length bs ≤ length d → length (write d at bs) ≡ length d
+unfolding write
+length-write d at bs h =
+    simp (length-append, length-drop)
+    (omega (arith, length-take-le at d (omega arith)))

@@ -10,11 +10,11 @@ use lib.ListN.{length}
 use Rattle.literal.specs.declared.Literal.{Literal}
 use Rattle.literal.specs.declared.Literal.the-variants.{Signed, Defeated}
 use Rattle.literal.specs.Order.{key}
+use Rattle.mask.proofs.Laws.Part.{or-assoc}
 use Rattle.record_walk.specs.Code.{tagAt, optionAt}
 use Rattle.set.specs.Code.{keySet}
 use Rattle.quotient_rule.specs.Code.{leftAt}
 use Rattle.quotient_rule.proofs.Laws.Left.{left-defeated, left-kept, left-first, left-count, left-few}
-use Rattle.check_mask.proofs.Laws.Part.{or-assoc}
 use Rattle.check_clauses.specs.declared.Left.{Left}
 use Rattle.check_clauses.specs.Code.{keyMask, union, literalMask, leftOf}
 use Rattle.check_clauses.proofs.Laws.Union.{union-append}

@@ -1,7 +1,7 @@
 -- What a rule's clause tells of the rule: whether what is left of it holds in the whole set, and what it adds to the clauses of
 -- a quotient.
 -- In order: unions of positions; a rule without a clause, and with one; the test for a broken rule. Assumes nothing.
-use Prim.Native.Nat.{ℕ, _≤_}
+use Prim.Native.Nat.{ℕ}
 use native.Mathlib.Omega.{arith}
 use mathlib.Core.Path.{_≡_, refl, sym, _∙_, ap, ap₂}
 use mathlib.Core.Bool.{Bool, true, false, cond, not, _||_}
@@ -15,7 +15,7 @@ use Rattle.semantics.specs.Set.{someOf, eachOf, setOf}
 use Rattle.semantics.specs.Rule.{Remainder}
 use Rattle.semantics.specs.Meaning.{withRemainder, holds, satisfied}
 use Rattle.semantics.proofs.Laws.Tests.{along, is-false}
-use Rattle.check_mask.proofs.Laws.Part.{or-none}
+use Rattle.mask.proofs.Laws.Part.{or-none}
 use Rattle.check_force.specs.Code.{maskOf, masksOf, bodiesOf, headsOf}
 use Rattle.check_force.proofs.Laws.Build.{mask-some, mask-none, bodies-kept, heads-kept, bodies-left-out, heads-left-out}
 use Rattle.check_clauses.specs.declared.Clause.{Clause}
@@ -106,11 +106,6 @@ module _ (ls : List Literal) where
   told (some q) c e = told-some q c (eachOf (setOf ls) (q .positive)) refl e
 
   module _ (o : Option Remainder) (c : Clause) where
-    -- no rule has two clauses
-    pub told-count : Told o c → c .count ≤ 1
-    told-count (without w) = omega (arith, w .none)
-    told-count (with-one w) = omega (arith, w .one)
-
     -- the rule is broken by its clause exactly if what is left of it does not hold
     pub told-holds : Told o c → isBroken c ≡ false → satisfied o (setOf ls) ≡ true
     unfolding isBroken

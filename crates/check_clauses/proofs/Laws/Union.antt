@@ -10,8 +10,8 @@ use lib.Bits.{bitOr, or-zero-l, or-zero-r}
 use lib.ListN.{drop}
 use Rattle.literal.specs.Code.{keyAt}
 use Rattle.semantics.specs.Set.{eachOf}
+use Rattle.mask.proofs.Laws.Part.{or-assoc}
 use Rattle.set.specs.Code.{hasKey}
-use Rattle.check_mask.proofs.Laws.Part.{or-assoc}
 use Rattle.check_clauses.specs.Code.{keyMask, keysAt, union, positionsOf}
 
 module _ (t : List ℕ) where

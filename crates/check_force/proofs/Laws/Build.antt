@@ -17,7 +17,7 @@ use Rattle.semantics.specs.Set.{eachOf, sameLiteral, setOf}
 use Rattle.semantics.specs.Rule.{Remainder}
 use Rattle.semantics.proofs.Laws.Tests.{both, left, right, either, refuted, is-true, is-false}
 use Rattle.semantics.proofs.Laws.Set.{mem-set-of}
-use Rattle.check_mask.specs.Code.{has}
+use Rattle.mask.specs.Code.{has}
 use Rattle.check_force.specs.Code.{maskOf, masksOf, bodiesOf, headsOf}
 
 -- no literal stands twice in the list

@@ -6,10 +6,10 @@ use mathlib.Core.Path.{_≡_, refl, sym, ap, ap₂, subst, _∙_}
 use mathlib.Core.Bool.{true, false}
 use mathlib.Core.Logic.{⊎-elim}
 use lib.Bits.{bitAnd, bitOr, bitXor, or-zero-r}
-use Rattle.check_mask.specs.Code.{Within, Apart, Single}
-use Rattle.check_mask.proofs.Laws.Rest.{rest, rest-none, none-rest, rest-within, rest-apart, within-rest, apart-by}
-use Rattle.check_mask.proofs.Laws.Part.{within-refl, within-trans, within-or-left, within-or-right, or-within, and-within-left, and-within-right, apart-sym, within-apart, xor-within, xor-apart, within-xor, or-none, apart-or-not}
-use Rattle.check_mask.proofs.Laws.Single.{apart-single}
+use Rattle.mask.specs.Code.{Within, Apart, Single}
+use Rattle.mask.proofs.Laws.Rest.{rest, rest-none, none-rest, rest-within, rest-apart, within-rest, apart-by}
+use Rattle.mask.proofs.Laws.Part.{within-refl, within-trans, within-or-left, within-or-right, or-within, and-within-left, and-within-right, apart-sym, within-apart, xor-within, xor-apart, within-xor, or-none, apart-or-not}
+use Rattle.mask.proofs.Laws.Single.{apart-single}
 use Rattle.check_force.specs.declared.Bounds.{Bounds}
 use Rattle.check_force.specs.Code.{Holds, Between, Quiet, Narrowed}
 use Rattle.check_force.proofs.Laws.Narrow.{true-not-false, unchanged}

@@ -6,9 +6,9 @@ use mathlib.Core.Path.{_≡_, refl, sym, subst, subst₂, _∙_}
 use mathlib.Core.Bool.{Bool, true, false}
 use lib.Count.{ones}
 use lib.Dec.{T}
-use Rattle.check_mask.specs.Code.{Within}
-use Rattle.check_mask.proofs.Laws.Part.{within-refl, within-trans, within-antisym}
-use Rattle.check_mask.proofs.Laws.Count.{ones-mono, ones-strict}
+use Rattle.mask.specs.Code.{Within}
+use Rattle.mask.proofs.Laws.Part.{within-refl, within-trans, within-antisym}
+use Rattle.mask.proofs.Laws.Count.{ones-mono, ones-strict}
 use Rattle.check_force.specs.declared.Bounds.{Bounds}
 use Rattle.check_force.specs.Code.{Kept, Narrowed, Propagated}
 

@@ -9,9 +9,9 @@ use mathlib.Core.Logic.{⊎-elim}
 use lib.Bits.{bitOr, bitXor}
 use lib.Dec.{T}
 use Rattle.semantics.proofs.Laws.Tests.{both, either, decide, refuted, along}
-use Rattle.check_mask.specs.Code.{has, Within, Apart}
-use Rattle.check_mask.proofs.Laws.Member.{has-or, apart-has}
-use Rattle.check_mask.proofs.Laws.Part.{within-refl, within-or-left, or-within, has-without, xor-within, within-xor}
+use Rattle.mask.specs.Code.{has, Within, Apart}
+use Rattle.mask.proofs.Laws.Member.{has-or, apart-has}
+use Rattle.mask.proofs.Laws.Part.{within-refl, within-or-left, or-within, has-without, xor-within, within-xor}
 use Rattle.check_force.specs.Code.{Between, Quiet}
 
 module _ (must may : ℕ) (inside : Within must may) where

@@ -6,9 +6,9 @@ use native.Mathlib.Decide.{ℕ-discrete}
 use native.Mathlib.Omega.{arith}
 use mathlib.Core.Path.{_≡_, sym, _∙_, ap, ap₂, subst}
 use lib.Bits.{bitAnd, bitOr, bitXor, or-zero-l, or-zero-r}
-use Rattle.check_mask.specs.Code.{Within, Apart}
-use Rattle.check_mask.proofs.Laws.Rest.{rest, rest-none, none-rest, rest-within, rest-apart}
-use Rattle.check_mask.proofs.Laws.Part.{within-trans, within-le, within-or-right, or-none, and-within-left, and-within-right, apart-sym, within-apart, xor-apart}
+use Rattle.mask.specs.Code.{Within, Apart}
+use Rattle.mask.proofs.Laws.Rest.{rest, rest-none, none-rest, rest-within, rest-apart}
+use Rattle.mask.proofs.Laws.Part.{within-trans, within-le, within-or-right, or-none, and-within-left, and-within-right, apart-sym, within-apart, xor-apart}
 use Rattle.check_force.specs.Code.{Holds, Between, Quiet}
 use Rattle.check_force.proofs.Laws.Quiet.{lower, upper, quiet-ends, quiet-grown, quiet-shrunk}
 

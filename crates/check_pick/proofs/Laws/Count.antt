@@ -7,8 +7,8 @@ use mathlib.Core.Bool.{Bool, true, false, cond}
 use lib.Bits.{bitAnd, bitXor}
 use lib.Dec.{eqb}
 use borrow.Author.Tests.{eqb-true, eqb-false}
-use Rattle.check_mask.specs.Code.{Within}
-use Rattle.check_mask.proofs.Laws.Part.{within-trans, and-within-left}
+use Rattle.mask.specs.Code.{Within}
+use Rattle.mask.proofs.Laws.Part.{within-trans, and-within-left}
 use Rattle.check_pick.specs.declared.Tally.{Tally}
 use Rattle.check_pick.specs.Code.{tallied, refined, mostOf}
 

@@ -17,7 +17,7 @@ use Rattle.semantics.specs.Meaning.{models}
 use Rattle.semantics.specs.Verdict.{firstSubset, smallerModel}
 use Rattle.semantics.proofs.Laws.Tests.{both, first, second, fails, refuted, all-intro}
 use Rattle.semantics.proofs.Laws.Set.{set-of-mem}
-use Rattle.check_mask.proofs.Laws.Place.{within-ones, ones-within}
+use Rattle.mask.proofs.Laws.Place.{within-ones, ones-within}
 use Rattle.check_force.specs.Code.{Holds, Smaller, bodiesOf, headsOf}
 use Rattle.check_force.proofs.Laws.Build.{distinct, picked}
 use Rattle.check_search.specs.declared.Found.{Found}

@@ -6,8 +6,8 @@ use mathlib.Core.Path.{_≡_, refl, subst}
 use mathlib.Core.Bool.{true, false}
 use mathlib.Core.Logic.{_⊎_, inl, inr, ⊎-elim}
 use lib.Bits.{bitOr, bitXor}
-use Rattle.check_mask.specs.Code.{Within, Position, Highest}
-use Rattle.check_mask.proofs.Laws.Part.{within-refl, within-trans, within-le, within-or-left, xor-within}
+use Rattle.mask.specs.Code.{Within, Position, Highest}
+use Rattle.mask.proofs.Laws.Part.{within-refl, within-trans, within-le, within-or-left, xor-within}
 use Rattle.check_force.specs.declared.Bounds.{Bounds}
 use Rattle.check_force.specs.Code.{Propagated}
 use Rattle.check_force.proofs.Laws.Narrow.{true-not-false}

@@ -6,8 +6,8 @@ use Prim.Native.Nat.{ℕ}
 use mathlib.Core.Path.{_≡_, refl, sym, subst}
 use mathlib.Core.Bool.{false, true}
 use lib.Bits.{bitAnd, bitOr, bitXor}
-use Rattle.check_mask.specs.Code.{Within, Highest}
-use Rattle.check_mask.proofs.Laws.Part.{within-antisym, within-xor, apart-sym}
+use Rattle.mask.specs.Code.{Within, Highest}
+use Rattle.mask.proofs.Laws.Part.{within-antisym, within-xor, apart-sym}
 use Rattle.check_search.specs.declared.Found.{Found}
 use Rattle.check_search.specs.Code.{Candidate, Any, First}
 use Rattle.check_search.proofs.Laws.Open.{open-within, tries-inside}

@@ -6,9 +6,9 @@ use native.Mathlib.Omega.{arith}
 use mathlib.Core.Path.{_≡_}
 use mathlib.Core.Logic.{_⊎_, inl, inr, ⊎-elim}
 use lib.Bits.{bitOr, bitXor, or-disjoint}
-use Rattle.check_mask.specs.Code.{Within, Apart, Position, Highest}
-use Rattle.check_mask.proofs.Laws.Part.{within-trans, within-le, within-or-left, or-within, apart-sym, within-apart, xor-within, xor-apart, within-xor, xor-sum, apart-or-not}
-use Rattle.check_mask.proofs.Laws.Count.{ones-mono, ones-strict}
+use Rattle.mask.specs.Code.{Within, Apart, Position, Highest}
+use Rattle.mask.proofs.Laws.Part.{within-trans, within-le, within-or-left, or-within, apart-sym, within-apart, xor-within, xor-apart, within-xor, xor-sum, apart-or-not}
+use Rattle.mask.proofs.Laws.Count.{ones-mono, ones-strict}
 use Rattle.check_force.specs.Code.{Between}
 use Rattle.check_force.proofs.Laws.Narrow.{open-count}
 

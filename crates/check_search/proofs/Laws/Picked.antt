@@ -14,8 +14,8 @@ use Rattle.literal.specs.declared.Literal.{Literal}
 use Rattle.semantics.specs.Verdict.{firstSubset}
 use Rattle.semantics.specs.Findings.{Part, nil, absent, present, Before}
 use Rattle.semantics.proofs.Laws.Part.{none-first, some-first}
-use Rattle.check_mask.specs.Code.{has}
-use Rattle.check_mask.proofs.Laws.Place.{has-add-below, has-add-at, has-beyond, mod-suc}
+use Rattle.mask.specs.Code.{has}
+use Rattle.mask.proofs.Laws.Place.{has-add-below, has-add-at, has-beyond, mod-suc}
 use Rattle.check_force.proofs.Laws.Build.{picked}
 use Rattle.check_search.specs.declared.Found.{Found}
 use Rattle.check_search.specs.Code.{First}

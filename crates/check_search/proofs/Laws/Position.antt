@@ -14,8 +14,8 @@ use Rattle.semantics.specs.Set.{sameLiteral, setOf}
 use Rattle.semantics.proofs.Laws.Tests.{first, second, left, right, either, fails, decide, along}
 use Rattle.semantics.proofs.Laws.Set.{same-literal-eq}
 use Rattle.semantics.proofs.Laws.Part.{part-subset}
-use Rattle.check_mask.specs.Code.{has, Within, Apart}
-use Rattle.check_mask.proofs.Laws.Place.{pow-within, pow-apart}
+use Rattle.mask.specs.Code.{has, Within, Apart}
+use Rattle.mask.proofs.Laws.Place.{pow-within, pow-apart}
 use Rattle.check_force.specs.Code.{maskOf}
 use Rattle.check_force.proofs.Laws.Build.{distinct, picked, mask-some, mask-none}
 use Rattle.check_search.proofs.Laws.Picked.{picked-part}

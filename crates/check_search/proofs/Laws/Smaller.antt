@@ -3,8 +3,8 @@
 use Prim.Native.Nat.{ℕ}
 use mathlib.Core.Path.{refl, subst}
 use mathlib.Core.List.{List}
-use Rattle.check_mask.specs.Code.{Within}
-use Rattle.check_mask.proofs.Laws.Part.{within-refl, within-antisym}
+use Rattle.mask.specs.Code.{Within}
+use Rattle.mask.proofs.Laws.Part.{within-refl, within-antisym}
 use Rattle.check_force.specs.Code.{Model, Smaller}
 use Rattle.check_search.specs.declared.Found.{Found}
 use Rattle.check_search.specs.Code.{Candidate, First}

@@ -9,8 +9,8 @@ use lib.Dec.{T}
 use Rattle.literal.specs.declared.Literal.{Literal}
 use Rattle.semantics.specs.Set.{someOf, eachOf, setOf}
 use Rattle.semantics.proofs.Laws.Tests.{both, first, second, left, right, either}
-use Rattle.check_mask.specs.Code.{Within, Apart}
-use Rattle.check_mask.proofs.Laws.Part.{within-trans, within-or-left, within-or-right, or-within, within-apart, or-apart}
+use Rattle.mask.specs.Code.{Within, Apart}
+use Rattle.mask.proofs.Laws.Part.{within-trans, within-or-left, within-or-right, or-within, within-apart, or-apart}
 use Rattle.check_force.specs.Code.{maskOf, masksOf}
 use Rattle.check_force.proofs.Laws.Build.{distinct, picked}
 use Rattle.check_search.proofs.Laws.Position.{present-within, present-meets, within-present, absent-apart}

@@ -15,8 +15,8 @@ use Rattle.semantics.specs.Set.{eachOf, sameLiteral, setOf}
 use Rattle.semantics.proofs.Laws.Tests.{first, second, either, fails, all-mem, all-intro}
 use Rattle.semantics.proofs.Laws.Set.{same-literal-eq, set-of-mem}
 use Rattle.semantics.proofs.Laws.Part.{part-subset}
-use Rattle.check_mask.specs.Code.{has}
-use Rattle.check_mask.proofs.Laws.Place.{mod-suc}
+use Rattle.mask.specs.Code.{has}
+use Rattle.mask.proofs.Laws.Place.{mod-suc}
 use Rattle.check_force.proofs.Laws.Build.{distinct, picked}
 use Rattle.check_search.proofs.Laws.Picked.{picked-part}
 

@@ -14,12 +14,12 @@ use Rattle.buffer.proofs.Laws.Before.{write-before}
 use Rattle.literal.specs.declared.Literal.{Literal}
 use Rattle.literal.specs.Literal.{encoded}
 use Rattle.literal.proofs.Laws.Literal.{length-encoded}
+use Rattle.mask.specs.Code.{has}
 use Rattle.record.specs.Layout.{encodedLiterals}
 use Rattle.record.proofs.Laws.Layout.{length-encoded-literals}
 use Rattle.set.specs.Layout.{encodedSet}
 use Rattle.set.specs.Code.{setHeader}
 use Rattle.set.proofs.Laws.Keys.{keys-behind}
-use Rattle.check_mask.specs.Code.{has}
 use Rattle.check_force.proofs.Laws.Build.{picked, picked-present, picked-absent}
 use Rattle.check_witness.specs.Code.{pickedOne, pickedBytes, pickedRecord}
 

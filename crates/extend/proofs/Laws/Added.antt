@@ -4,13 +4,14 @@ use mathlib.Core.Path.{_≡_, refl}
 use mathlib.Core.List.{List, _++_}
 use lib.Dec.{T}
 use Rattle.literal.specs.declared.Literal.{Literal}
+use Rattle.literal.specs.Order.{sorted}
 use Rattle.semantics.specs.Set.{eachOf, setOf}
 use Rattle.semantics.specs.Rule.{Program}
 use Rattle.semantics.proofs.Laws.Tests.{each-all}
+use Rattle.keys.proofs.Laws.Literals.{each-sorted}
 use Rattle.extend_marks.specs.Marks.{marksFrom}
 use Rattle.extend_marks.proofs.Laws.Each.{isMark, marks-are}
-use Rattle.extend.specs.Extend.{sorted, extensionList}
-use Rattle.extend.proofs.Laws.Sorted.{each-sorted}
+use Rattle.extend.specs.Extend.{extensionList}
 
 -- the list, and marks behind it
 pub extension-marks : (p : Program) (ls : List Literal) → (ms : List Literal) × (extensionList p ls ≡ ls ++ ms) × T (eachOf isMark ms)

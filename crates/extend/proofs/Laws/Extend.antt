@@ -11,7 +11,7 @@ use lib.ListN.{length}
 use Rattle.literal.specs.declared.Limits.{Limits}
 use Rattle.literal.specs.declared.Literal.{Literal}
 use Rattle.literal.specs.Literal.{mostKind, takes}
-use Rattle.literal.specs.Order.{key}
+use Rattle.literal.specs.Order.{key, sorted}
 use Rattle.literal.proofs.Laws.Literal.{Fits, TwoBytes, takes-fits}
 use Rattle.semantics.specs.Set.{eachOf, sameLiteral, setOf}
 use Rattle.semantics.specs.Rule.{Program}
@@ -21,13 +21,13 @@ use Rattle.semantics.proofs.Laws.Set.{set-ext}
 use Rattle.semantics.proofs.Laws.Agree.{Speaks}
 use Rattle.semantics.proofs.Laws.Form.{takes-source}
 use Rattle.set.specs.Layout.{ascending}
+use Rattle.keys.proofs.Laws.Literals.{each-sorted, in-sorted}
 use Rattle.extend_marks.specs.Marks.{marksFrom}
 use Rattle.extend_marks.proofs.Laws.Members.{marks-added}
-use Rattle.extend.specs.Extend.{sorted, extensionList}
+use Rattle.extend.specs.Extend.{extensionList}
 use Rattle.extend.specs.Code.{Extendable}
-use Rattle.extend.proofs.Laws.Sorted.{each-sorted}
 use Rattle.extend.proofs.Laws.Narrow.{marks-fit}
-use Rattle.extend.proofs.Laws.Inserted.{in-sorted, ascending-sorted, ascending-append}
+use Rattle.extend.proofs.Laws.Inserted.{ascending-sorted, ascending-append}
 use Rattle.extend.proofs.Laws.Places.{firstMark, not-below-marks, below-literals}
 
 -- a literal is in the list exactly if it is in the extension

@@ -13,7 +13,7 @@ use lib.Seq.{take-all, take-append-le, length-front}
 use Rattle.buffer.specs.Bytes.{Bytes}
 use Rattle.literal.specs.declared.Limits.{Limits}
 use Rattle.literal.specs.declared.Literal.{Literal}
-use Rattle.literal.specs.Order.{key}
+use Rattle.literal.specs.Order.{key, sorted}
 use Rattle.literal.proofs.Laws.Literal.{Fits}
 use Rattle.semantics.specs.Set.{LiteralSet, eachOf, setOf}
 use Rattle.semantics.specs.Rule.{Rule, head, Program}
@@ -37,14 +37,15 @@ use Rattle.set.proofs.Laws.Keys.{read-agree}
 use Rattle.keys.specs.Keys.{sortedKeys}
 use Rattle.keys.specs.Code.{keyBytes, Fitting}
 use Rattle.keys.proofs.Laws.Bytes.{fitting-sorted}
+use Rattle.keys.proofs.Laws.Literals.{keys-sorted}
 use Rattle.keys_sort.specs.Code.{Sorted}
 use Rattle.extend_marks.specs.Marks.{marksFrom}
 use Rattle.extend_marks.specs.Code.{Gained, Markable}
 use Rattle.extend_marks.proofs.Laws.Gained.{gained-front}
 use Rattle.extend_marks.proofs.Laws.Agree.{marks-same}
-use Rattle.extend.specs.Extend.{sorted, extensionList}
+use Rattle.extend.specs.Extend.{extensionList}
 use Rattle.extend.specs.Code.{most, Extendable, joined}
-use Rattle.extend.proofs.Laws.Sorted.{keys-sorted, keyBytes-sorted, fitting-keys}
+use Rattle.extend.proofs.Laws.Sorted.{keyBytes-sorted, fitting-keys}
 use Rattle.extend.proofs.Laws.Narrow.{marks-fit}
 
 -- keys that were gained from the front on, and are sorted there

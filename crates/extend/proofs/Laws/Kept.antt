@@ -11,6 +11,7 @@ use lib.ListN.{length, length-append}
 use Rattle.literal.specs.declared.Limits.{Limits}
 use Rattle.literal.specs.declared.Literal.{Literal}
 use Rattle.literal.specs.Literal.{mostKind, takes}
+use Rattle.literal.specs.Order.{sorted}
 use Rattle.literal.proofs.Laws.Literal.{Fits}
 use Rattle.semantics.specs.Set.{LiteralSet, setOf}
 use Rattle.semantics.specs.Rule.{head, Program}
@@ -21,11 +22,11 @@ use Rattle.semantics.proofs.Laws.Set.{set-of-mem, mem-set-of}
 use Rattle.semantics.proofs.Laws.Form.{keeps-count, keeps-each, takes-source, Covers, extension-within}
 use Rattle.set.specs.Layout.{keepsSet}
 use Rattle.set.proofs.Laws.Reading.{keeps-set, keeps-set-ascending, keeps-set-taken, keeps-set-most}
+use Rattle.keys.proofs.Laws.Literals.{length-sorted}
 use Rattle.extend_marks.specs.Marks.{marksFrom}
 use Rattle.extend_marks.proofs.Laws.Count.{length-program}
-use Rattle.extend.specs.Extend.{sorted, extensionList}
+use Rattle.extend.specs.Extend.{extensionList}
 use Rattle.extend.specs.Code.{most, Extendable}
-use Rattle.extend.proofs.Laws.Sorted.{length-sorted}
 use Rattle.extend.proofs.Laws.Gathered.{few-heads}
 use Rattle.extend.proofs.Laws.Extend.{extension-list, extension-ascending-form}
 

@@ -41,11 +41,7 @@ rules-placed F (suc f) t at n k h = go (recordAt F n t) refl (record-placed F n 
     go (refused y) w p ih = omega arith
     go (accepted e) w p ih = entry e w ih
 
--- what reading refuses lies in the slice, and within the form's length
-pub parsed-placed-in : (F : Limits) (s : List ℕ) → Placed (length s) (parsed F s)
-unfolding parsed
-parsed-placed-in F s = refuse-if-placed (length s) _ _ _ (omega arith) (λ e. rules-placed F (length s + 1) s 0 0 (length s) (omega arith))
-
+-- what reading refuses lies within the form's length
 pub parsed-placed : (F : Limits) (s : List ℕ) → Placed (F .length) (parsed F s)
 unfolding parsed
 parsed-placed F s =

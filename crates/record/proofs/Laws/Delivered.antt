@@ -1,5 +1,5 @@
--- What an operation that writes answers and leaves in the lent buffer: a refusal, a result, or 9; where a refusal lies and what
--- a result fits; what meets each.
+-- What an operation that writes answers and leaves in the lent buffer: a refusal, a result, or 9; where a refusal lies; what meets
+-- each.
 -- Assumes nothing.
 use Prim.Native.Nat.{ℕ, _≤_, _<_}
 use native.Mathlib.Omega.{arith}
@@ -8,7 +8,7 @@ use mathlib.Core.Bool.{Bool, true, false}
 use mathlib.Core.List.{List}
 use lib.Dec.{ltb}
 use lib.ListN.{length}
-use borrow.Author.Tests.{le-ltb, lt-ltb, ltb-false}
+use borrow.Author.Tests.{le-ltb, lt-ltb}
 use Rattle.buffer.specs.Write.{write}
 use Rattle.record.specs.declared.Reason.the-variants.{OutputShort}
 use Rattle.record.specs.declared.Refusal.{Refusal}
@@ -47,22 +47,11 @@ module _ (bs out : List ℕ) where
   chosen-place true x e = let same : refusal OutputShort 0 ≡ x = cc in sym (ap (λ (y : Refusal). y .place) same)
   chosen-place false x e = let z : _≡_ {A = ℕ} 0 1 = cc in absurd (omega arith)
 
-  chosen-within : (b : Bool) → ltb (length out) (length bs) ≡ b → (n : ℕ) → choose b .answer ≡ Length n → n ≤ length out
-  unfolding choose
-  chosen-within true q n e = let z : _≡_ {A = ℕ} 0 1 = cc in absurd (omega arith)
-  chosen-within false q n e = let same : length bs ≡ n = cc in omega (arith, same, ltb-false (length out) (length bs) q)
-
 -- where what is delivered is refused within k bytes, so is the outcome
 pub delivered-place : (k : ℕ) (q : Result (List ℕ)) (out : List ℕ) → Placed k q → (x : Refusal) → delivered q out .answer ≡ Refused x → x .place ≤ k
 unfolding delivered choose
 delivered-place k (refused y) out p x e = let same : y ≡ x = cc in subst (λ (z : Refusal). z .place ≤ k) same p
 delivered-place k (accepted bs) out p x e = omega (arith, chosen-place bs out (ltb (length out) (length bs)) x e)
-
--- what is answered as written fits the buffer
-pub delivered-within : (q : Result (List ℕ)) (out : List ℕ) (n : ℕ) → delivered q out .answer ≡ Length n → n ≤ length out
-unfolding delivered choose
-delivered-within (refused y) out n e = let z : _≡_ {A = ℕ} 0 1 = cc in absurd (omega arith)
-delivered-within (accepted bs) out n e = chosen-within bs out (ltb (length out) (length bs)) refl n e
 
 -- an answer and a buffer that are an outcome's meet it
 meets : {o q : Outcome} → o ≡ q → Meets o (q .answer) (q .buffer)

@@ -1,6 +1,7 @@
 -- Laws of sets: the tests of sameness are equalities; two sets with the same literals are one; minimality.
 -- Assumes nothing.
 use mathlib.Core.Path.{_≡_, sym, ap, ap₂, subst, fun-ext}
+use mathlib.Core.Bool.{Bool}
 use mathlib.Core.Logic.{_⊎_, inl, inr}
 use mathlib.Core.List.{List, List·Memᴰ, Memᴰ·cast}
 use lib.Dec.{T, eqb→eq, eqb-refl}
@@ -11,7 +12,7 @@ use Rattle.literal.specs.declared.SignedAtom.{SignedAtom}
 use Rattle.literal.specs.declared.SignedAtom.the-variants.{Positive, Negative}
 use Rattle.literal.specs.declared.Literal.{Literal}
 use Rattle.literal.specs.declared.Literal.the-variants.{Signed, Defeated, Derived, RuleDefeated}
-use Rattle.semantics.specs.Set.{LiteralSet, Subset, ProperSubset, sameTag, sameSigned, sameLiteral, setOf}
+use Rattle.semantics.specs.Set.{Subset, ProperSubset, sameTag, sameSigned, sameLiteral, setOf}
 use Rattle.semantics.proofs.Laws.Tests.{first, second, both, decide, any-mem, any-found, same-test}
 
 -- a number in a tuple struct is the struct
@@ -76,19 +77,20 @@ mem-set-of l ls t =
     let found = any-found (sameLiteral l) ls t in
     Memᴰ·cast (same-literal-eq l (found .0) (found .2)) (found .1)
 
--- two sets, each part of the other, are equal
-pub set-ext : (s u : LiteralSet) → Subset s u → Subset u s → s ≡ u
-set-ext s u f g = fun-ext (λ l. same-test (s l) (u l) (f l) (g l))
+module _ {A : Type 0} where
+  -- two sets, each part of the other, are equal
+  pub set-ext : (s u : A → Bool) → Subset s u → Subset u s → s ≡ u
+  set-ext s u f g = fun-ext (λ x. same-test (s x) (u x) (f x) (g x))
 
--- "no proper subset has the property" says the same as "each subset that has the property contains the set"
-pub minimal-contains : (s : LiteralSet) (P : LiteralSet → Type 0)
-    → ((u : LiteralSet) → ProperSubset u s → P u → ⊥) → (u : LiteralSet) → Subset u s → P u → Subset s u
-minimal-contains s P h u sub pu l t = go (decide (u l))
-  where
-    go : T (u l) ⊎ (T (u l) → ⊥) → T (u l)
-    go (inl y) = y
-    go (inr n) = absurd (h u (record { subset = sub; differs = λ e. n (subst (λ (v : LiteralSet). T (v l)) (sym e) t) }) pu)
+  -- "no proper subset has the property" says the same as "each subset that has the property contains the set"
+  pub minimal-contains : (s : A → Bool) (P : (A → Bool) → Type 0)
+      → ((u : A → Bool) → ProperSubset u s → P u → ⊥) → (u : A → Bool) → Subset u s → P u → Subset s u
+  minimal-contains s P h u sub pu x t = go (decide (u x))
+    where
+      go : T (u x) ⊎ (T (u x) → ⊥) → T (u x)
+      go (inl y) = y
+      go (inr n) = absurd (h u (record { subset = sub; differs = λ e. n (subst (λ (v : A → Bool). T (v x)) (sym e) t) }) pu)
 
-pub contains-minimal : (s : LiteralSet) (P : LiteralSet → Type 0)
-    → ((u : LiteralSet) → Subset u s → P u → Subset s u) → (u : LiteralSet) → ProperSubset u s → P u → ⊥
-contains-minimal s P h u sub pu = sub .differs (set-ext u s (sub .subset) (h u (sub .subset) pu))
+  pub contains-minimal : (s : A → Bool) (P : (A → Bool) → Type 0)
+      → ((u : A → Bool) → Subset u s → P u → Subset s u) → (u : A → Bool) → ProperSubset u s → P u → ⊥
+  contains-minimal s P h u sub pu = sub .differs (set-ext u s (sub .subset) (h u (sub .subset) pu))

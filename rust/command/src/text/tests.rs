@@ -1,10 +1,7 @@
 //! The text form beside its bytes: fixed cases, errors with their places, and round trips of random programs.
 
-#[path = "../../../limits.rs"]
-mod limits;
-
 use super::*;
-use limits::{PLAIN, SOURCE};
+use crate::limits::{PLAIN, SOURCE};
 
 fn parsed(text: &str) -> Parsed {
     parse_program(text).unwrap_or_else(|error| panic!("{error}: {text}"))

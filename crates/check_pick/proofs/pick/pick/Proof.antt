@@ -5,7 +5,7 @@ use Prim.Native.Nat.{_≤_, _-_}
 use mathlib.Core.Path.{sym, subst}
 use lib.Bits.{bitXor}
 use borrow.Author.Needs.{needs}
-use Rattle.check_mask.proofs.Laws.Part.{within-refl, within-trans}
+use Rattle.mask.proofs.Laws.Part.{within-refl, within-trans}
 use Rattle.check_pick.proofs.Laws.Count.{Some, most-some}
 use Rattle.check_pick.proofs.pick.pick.Statement.{statement}
 use Rattle.check_pick.proofs.pick.pick.Tie as tie

@@ -1,0 +1,3 @@
+pub mod Pass
+pub mod Text
+pub mod Outcome

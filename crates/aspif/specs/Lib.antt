@@ -1,0 +1,2 @@
+pub mod Aspif
+pub mod Code

@@ -1,0 +1,4 @@
+pub mod Ground
+pub mod Numbering
+pub mod Program
+pub mod Match

@@ -1,0 +1,3 @@
+pub mod Names
+pub mod Pairs
+pub mod Places

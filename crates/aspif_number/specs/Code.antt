@@ -1,0 +1,72 @@
+-- What code that numbers literals holds: words of marks, and for each word a count.
+-- In order: rows counted from a shift on; nothing marked or counted; places that a row of words gained; counts of single words, and sums
+-- of them; counts of all words before; places in a slice; words that have places; a program whose literals have places.
+-- Assumes nothing.
+use Prim.Native.Nat.{ℕ, zero, suc, _+_, _*_, _≤_, _<_}
+use mathlib.Core.Path.{_≡_}
+use mathlib.Core.Bool.{_||_}
+use mathlib.Core.List.{List, [], _∷_}
+use lib.Count.{ones}
+use lib.Dec.{T, ltb}
+use lib.ListN.{length, getD, drop}
+use Rattle.semantics.specs.Set.{eachOf}
+use Rattle.semantics.specs.Rule.{Program}
+use Rattle.record.specs.Header.{headCount, positiveCount, nafCount}
+use Rattle.keys.specs.Keys.{keyIn}
+use Rattle.aspif_meaning.specs.Numbering.{occurring}
+use Rattle.aspif_place.specs.Code.{words, place, placeAt, marked, markedBelow}
+
+-- from here on rows are counted while one is picked
+abbrev pub shift : ℕ
+shift = 399
+
+-- nothing is marked, or counted
+abbrev pub Empty : List ℕ → Type 0
+Empty xs = (w : ℕ) → getD xs w 0 ≡ 0
+
+-- words d became e, as many: beside the places that were marked, those of ks are
+pub record Gained (d e ks : List ℕ) : Type 0 where
+  pub same : length e ≡ length d
+  pub mark : (i : ℕ) → marked e i ≡ (keyIn i ks || marked d i)
+
+-- each word's count is that of its own marks
+pub record Tallied (bits counts : List ℕ) : Type 0 where
+  pub same : length counts ≡ length bits
+  pub tally : (w : ℕ) → getD counts w 0 ≡ ones (getD bits w 0)
+
+-- counts of so few words that their sum fits: a word has 64 places
+pub record Few (counts : List ℕ) : Type 0 where
+  pub short : length counts ≤ words
+  pub low : (w : ℕ) → getD counts w 0 ≤ 64
+
+-- the sum of the first w counts
+unfoldable pub sumOf : List ℕ → ℕ → ℕ
+sumOf counts zero = 0
+sumOf counts (suc w) = sumOf counts w + getD counts w 0
+
+-- counts d became e: in the place of each count is the sum of those before it
+pub record Sums (d e : List ℕ) : Type 0 where
+  pub same : length e ≡ length d
+  pub sum : (w : ℕ) → w < length d → getD e w 0 ≡ sumOf d w
+
+-- each word's count is that of the marks below it
+pub record Summed (bits counts : List ℕ) : Type 0 where
+  pub same : length counts ≡ length bits
+  pub sum : (w : ℕ) → w < length bits → getD counts w 0 ≡ markedBelow bits (64 * w)
+
+-- the places of n literals, one behind the other from `at` on
+unfoldable pub placesAt : List ℕ → ℕ → ℕ → List ℕ
+placesAt s at zero = []
+placesAt s at (suc n) = placeAt (drop at s) ∷ placesAt s (at + 5) n
+
+-- how many literals the rule's record that starts a part has
+abbrev pub literalCount : List ℕ → ℕ
+literalCount t = headCount t + positiveCount t + nafCount t
+
+-- n words have each of these places
+abbrev pub Room : ℕ → List ℕ → Type 0
+Room n ks = T (eachOf (λ k. ltb k (64 * n)) ks)
+
+-- each literal of the program has a place among the words
+abbrev pub Placed : Program → Type 0
+Placed p = T (eachOf (λ l. ltb (place l) (64 * words)) (occurring p))

@@ -1,0 +1,4 @@
+pub mod Place
+pub mod Listed
+pub mod Numbers
+pub mod Limits

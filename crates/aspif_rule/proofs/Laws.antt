@@ -1,0 +1,4 @@
+pub mod Fields
+pub mod Run
+pub mod Rules
+pub mod Ground

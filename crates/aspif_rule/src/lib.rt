@@ -1,0 +1,5 @@
+// A rule's line in an aspif text: its fields, measured and written.
+
+pub mod fields;
+pub mod rules;
+pub mod word;

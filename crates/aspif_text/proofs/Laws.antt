@@ -1,0 +1,6 @@
+pub mod Fields
+pub mod Reading
+pub mod Statements
+pub mod Length
+pub mod Bound
+pub mod Short

@@ -1,0 +1,3 @@
+// Numbers in decimal figures, as bytes of a text: how many figures there are, and the figures put into a lent slice.
+
+pub mod decimal;
