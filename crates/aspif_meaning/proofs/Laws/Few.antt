@@ -7,18 +7,18 @@ use native.Mathlib.Omega.{arith}
 use mathlib.Core.Path.{_≡_, refl, sym, subst}
 use mathlib.Core.Bool.{Bool, true, false, cond}
 use mathlib.Core.List.{List, [], _∷_, map}
-use lib.Dec.{T, leb, leb→le, eqb, eqb→eq}
+use lib.Dec.{T, eqb, eqb→eq}
 use lib.ListN.{length, length-append}
 use Rattle.literal.specs.declared.Limits.{Limits}
 use Rattle.literal.specs.declared.SignedAtom.the-variants.{Positive, Negative}
 use Rattle.literal.specs.declared.Literal.{Literal}
 use Rattle.literal.specs.declared.Literal.the-variants.{Signed, Defeated, Derived, RuleDefeated}
-use Rattle.literal.specs.Literal.{kind, tagField, atomField, atomNumber, inRange, ranged, takes}
+use Rattle.literal.specs.Literal.{kind, tagField, atomField, atomNumber, ranged, takes}
 use Rattle.literal.specs.Order.{key}
-use Rattle.literal.proofs.Laws.Literal.{takes-ranged}
+use Rattle.literal.proofs.Laws.Literal.{in-range, takes-ranged}
 use Rattle.semantics.specs.Set.{LiteralSet, eachOf, setOf}
 use Rattle.semantics.specs.Rule.{Program}
-use Rattle.semantics.proofs.Laws.Tests.{Each, each-intro, each-mem, all-mem, first, second, right}
+use Rattle.semantics.proofs.Laws.Tests.{Each, each-intro, each-mem, all-mem, right}
 use Rattle.keys.specs.Keys.{keyIn}
 use Rattle.keys.proofs.Laws.Members.{Above, Ascending, first-in}
 use Rattle.keys.proofs.Laws.Sorted.{ascending-sorted}
@@ -104,12 +104,9 @@ record Numbered (F : Limits) (l : Literal) : Type 0 where
   most : atomField l ≤ F .atoms
 
 module _ (F : Limits) where
-  in-range : (n : ℕ) → T (inRange (F .atoms) n) → (1 ≤ n) × (n ≤ F .atoms)
-  in-range n h = (leb→le 1 n (first (leb 1 n) (leb n (F .atoms)) h), leb→le n (F .atoms) (second (leb 1 n) (leb n (F .atoms)) h))
-
   signed-numbered : (l : Literal) → T (ranged F l) → kind l ≤ 1 → Numbered F l
   unfolding kind tagField atomField ranged
-  signed-numbered (Signed a) h k = let w = in-range (atomNumber a) h in record { untagged = refl; from = w .0; most = w .1 }
+  signed-numbered (Signed a) h k = let w = in-range (F .atoms) (atomNumber a) h in record { untagged = refl; from = w .0; most = w .1 }
   signed-numbered (Defeated t (Positive a)) h k = absurd (omega arith)
   signed-numbered (Defeated t (Negative a)) h k = absurd (omega arith)
   signed-numbered (Derived t (Positive a)) h k = absurd (omega arith)

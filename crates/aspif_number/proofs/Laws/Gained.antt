@@ -1,10 +1,10 @@
 -- Places marked: one, and one run of them behind another.
--- In order: zeros; tests joined by "or"; one place of a word; no place, and one run behind another; all literals that occur.
+-- In order: zeros; one place of a word; no place, and one run behind another; all literals that occur.
 -- Assumes nothing.
 use Prim.Native.Nat.{ℕ, zero, suc, _+_, _*_, _/_, _%_, _^_, _≤_, _<_}
 use native.Mathlib.Omega.{arith}
 use mathlib.Core.Path.{_≡_, refl, sym, ap, _∙_}
-use mathlib.Core.Bool.{Bool, true, false, cond, not, _||_, or-assoc}
+use mathlib.Core.Bool.{Bool, true, false, cond, not, _||_, or-assoc, or-false}
 use mathlib.Core.List.{List, [], _∷_, _++_}
 use lib.Bits.{bitOr}
 use lib.Count.{ones}
@@ -26,11 +26,6 @@ pub zeros-empty : (n : ℕ) → Empty (replicate n 0)
 zeros-empty zero w = refl
 zeros-empty (suc n) zero = refl
 zeros-empty (suc n) (suc w) = zeros-empty n w
-
--- of tests joined by "or"
-pub or-false : (b : Bool) → (b || false) ≡ b
-or-false true = refl
-or-false false = refl
 
 or-flip : (a b : Bool) → (a || b) ≡ (b || a)
 or-flip true b = sym (or-true b)

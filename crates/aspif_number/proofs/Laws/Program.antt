@@ -5,7 +5,7 @@
 use Prim.Native.Nat.{ℕ, _*_, _/_, _%_}
 use native.Mathlib.Omega.{arith}
 use mathlib.Core.Path.{_≡_, refl, sym, ap, subst, _∙_}
-use mathlib.Core.Bool.{Bool, false, _||_}
+use mathlib.Core.Bool.{Bool, false, _||_, or-false}
 use mathlib.Core.List.{List, [], _∷_, _++_, map, append-assoc, append-nil, map-append}
 use lib.Dec.{T, ltb}
 use lib.ListN.{length, length-append}
@@ -23,7 +23,7 @@ use Rattle.aspif_meaning.specs.Numbering.{ruleLiterals, occurring}
 use Rattle.aspif_place.specs.Code.{words, place, marked, Marks}
 use Rattle.aspif_number.specs.Code.{Empty, Gained, placesAt, literalCount, Room, Placed}
 use Rattle.aspif_number.proofs.Laws.Place.{places-spelled}
-use Rattle.aspif_number.proofs.Laws.Gained.{or-false, gained-none, gained-more}
+use Rattle.aspif_number.proofs.Laws.Gained.{gained-none, gained-more}
 
 -- the literals of two programs, one behind the other
 occurring-append : (p q : Program) → occurring (p ++ q) ≡ occurring p ++ occurring q

@@ -6,7 +6,7 @@ use native.Mathlib.Omega.{arith}
 use mathlib.Core.Path.{_≡_, refl, ap, ap₂}
 use mathlib.Core.Bool.{Bool, true, false, _&&_}
 use mathlib.Core.Logic.{_⊎_, inl, inr}
-use lib.Dec.{T, leb, leb→le, ltb, ltb→lt, lt→ltb}
+use lib.Dec.{T, ltb, ltb→lt, lt→ltb}
 use borrow.Author.Tests.{ltb-true, ltb-false, le-leb, lt-leb}
 use Rattle.literal.specs.declared.Limits.{Limits}
 use Rattle.literal.specs.declared.Atom.{Atom}
@@ -15,7 +15,7 @@ use Rattle.literal.specs.declared.Literal.{Literal}
 use Rattle.literal.specs.declared.Literal.the-variants.{Signed, Defeated, Derived, RuleDefeated}
 use Rattle.literal.specs.Literal.{kind, tagField, atomField, inRange, ranged, takes}
 use Rattle.literal.specs.Order.{key, before}
-use Rattle.literal.proofs.Laws.Literal.{Fits, takes-ranged}
+use Rattle.literal.proofs.Laws.Literal.{Fits, in-range, takes-ranged}
 use Rattle.literal.proofs.Laws.Order.{key-injective}
 use Rattle.semantics.proofs.Laws.Tests.{first, second, same-test}
 use Rattle.aspif_place.specs.Code.{rowPlaces, tagRows, rows, words, rowOf, placeOf, place, Placeable}
@@ -50,9 +50,6 @@ row-rules k t e = rw e
 pub record HasPlace (l : Literal) : Type 0 where
   pub row : Row (kind l) (tagField l)
   pub number : atomField l < rowPlaces
-
-in-range : (most n : ℕ) → T (inRange most n) → (1 ≤ n) × (n ≤ most)
-in-range most n h = (leb→le 1 n (first (leb 1 n) (leb n most) h), leb→le n most (second (leb 1 n) (leb n most) h))
 
 pub placed : (F : Limits) → Placeable F → (l : Literal) → T (takes F l) → HasPlace l
 unfolding kind tagField atomField ranged

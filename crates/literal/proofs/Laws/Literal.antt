@@ -168,9 +168,9 @@ pub record TwoBytes (F : Limits) : Type 0 where
   pub tags : F .tags < 65536
   pub numbers : 6 ≤ mostKind (F .kinds) → F .numbers < 65536
 
--- what is in range is at most the largest value
-in-range : (most n : ℕ) → T (inRange most n) → n ≤ most
-in-range most n h = leb→le n most (and-r (leb 1 n) (leb n most) h)
+-- what is in range is from 1 to the largest value
+pub in-range : (most n : ℕ) → T (inRange most n) → (1 ≤ n) × (n ≤ most)
+in-range most n h = (leb→le 1 n (and-l (leb 1 n) (leb n most) h), leb→le n most (and-r (leb 1 n) (leb n most) h))
 
 module _ (F : Limits) where
   -- a literal that the form takes is decoded from its bytes
@@ -226,16 +226,16 @@ module _ (F : Limits) where
   module _ (w : TwoBytes F) where
     tagged : (t : Tag) (a : SignedAtom) → T (inRange (F .tags) (t .0) && inRange (F .atoms) (atomNumber a)) → (t .0 < 65536) × (atomNumber a < 65536)
     tagged t a h = (
-      omega (arith, in-range (F .tags) (t .0) (and-l (inRange (F .tags) (t .0)) (inRange (F .atoms) (atomNumber a)) h), w .tags),
-      omega (arith, in-range (F .atoms) (atomNumber a) (and-r (inRange (F .tags) (t .0)) (inRange (F .atoms) (atomNumber a)) h), w .atoms),
+      omega (arith, in-range (F .tags) (t .0) (and-l (inRange (F .tags) (t .0)) (inRange (F .atoms) (atomNumber a)) h) .1, w .tags),
+      omega (arith, in-range (F .atoms) (atomNumber a) (and-r (inRange (F .tags) (t .0)) (inRange (F .atoms) (atomNumber a)) h) .1, w .atoms),
     )
 
     ranged-fits : (l : Literal) → kind l ≤ mostKind (F .kinds) → T (ranged F l) → Fits l
     unfolding ranged tagField atomField kind
-    ranged-fits (Signed a) k h = (omega arith, omega (arith, in-range (F .atoms) (atomNumber a) h, w .atoms))
+    ranged-fits (Signed a) k h = (omega arith, omega (arith, in-range (F .atoms) (atomNumber a) h .1, w .atoms))
     ranged-fits (Defeated t a) k h = tagged t a h
     ranged-fits (Derived t a) k h = tagged t a h
-    ranged-fits (RuleDefeated n) k h = (omega arith, omega (arith, in-range (F .numbers) (n .0) h, w .numbers k))
+    ranged-fits (RuleDefeated n) k h = (omega arith, omega (arith, in-range (F .numbers) (n .0) h .1, w .numbers k))
 
     pub takes-fits : (l : Literal) → T (takes F l) → Fits l
     takes-fits l h = ranged-fits l (takes-kind l h) (takes-ranged l h)
