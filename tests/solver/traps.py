@@ -72,6 +72,15 @@ def words(sets):
     return ", ".join(f"{{{names}}}" for names in shown) or "none"
 
 
+def by_brute_force(report, plain, source, count):
+    """The answer sets of a plain program, and the extended ones of a source made of it: as many."""
+    right = set(answer_sets(plain, literals_of(plain)))
+    extended = {extension(source, found) for found in answer_sets(source, literals_of(source))}
+    report.expect(f"brute force: {len(right)} answer sets, {words(right)}", len(right) == count)
+    report.expect(f"as a source with tag 1: {len(extended)}", len(extended) == count)
+    return right, extended
+
+
 # ---------------------------------------------------------------------------------------------
 # (a) The solver's default options
 
@@ -98,10 +107,7 @@ def default_options(report):
     report.title("(a) clingo's default options: 1 or 2 or .. or 6; 1 if 2; 2 if 1")
     plain = one_loop()
     source = [defeasible(1, plain[0].heads), *plain[1:]]
-    right = set(answer_sets(plain, literals_of(plain)))
-    extended = {extension(source, found) for found in answer_sets(source, literals_of(source))}
-    report.expect(f"brute force: {len(right)} answer sets, {words(right)}", len(right) == 5)
-    report.expect(f"as a source with tag 1: {len(extended)}", len(extended) == 5)
+    right, extended = by_brute_force(report, plain, source, 5)
     if not solve.is_there():
         report.note("skipped: clingo is not there")
         return
@@ -283,10 +289,7 @@ def lost_with_any_options(report):
     # Two choices with one tag: their derivation marks meet as the literals do above.
     source = [defeasible(1, rule.heads, rule.positives) if len(rule.heads) > 1 else rule
               for rule in plain]
-    right = set(answer_sets(plain, literals_of(plain)))
-    extended = {extension(source, found) for found in answer_sets(source, literals_of(source))}
-    report.expect(f"brute force: {len(right)} answer sets, {words(right)}", len(right) == 3)
-    report.expect(f"as a source with tag 1: {len(extended)}", len(extended) == 3)
+    right, extended = by_brute_force(report, plain, source, 3)
     if not solve.is_there():
         report.note("skipped: clingo is not there")
         return
