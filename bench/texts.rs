@@ -42,7 +42,14 @@ fn text_length(program: &[u8]) -> usize {
     exports::aspif(program, &mut vec![0; bound(program.len())]) as usize
 }
 
-/// Time for each byte of the program, size by size, and how far the sizes from the second on are apart.
+/// The largest of these over the least.
+fn apart(each: impl Iterator<Item = f64>) -> f64 {
+    let (least, most) = each.fold((f64::MAX, 0.0), |(least, most): (f64, f64), one| (least.min(one), most.max(one)));
+    most / least
+}
+
+/// Time for each byte of the text, size by size, and how far the sizes from the second on are apart; also for a byte of the program, of
+/// which a small one has more names.
 fn growth_line(name: &str, programs: &[Vec<u8>], call: impl Fn(&[u8], &mut [u8]) -> u64) {
     let mut out = vec![0; bound(PLAIN.length)];
     let nanoseconds = |program: &Vec<u8>| {
@@ -52,10 +59,10 @@ fn growth_line(name: &str, programs: &[Vec<u8>], call: impl Fn(&[u8], &mut [u8])
     };
     let times: Vec<f64> = programs.iter().map(nanoseconds).collect();
     print!("{name:<20}");
-    let each = |i: usize| times[i] / programs[i].len() as f64;
+    let each = |i: usize| times[i] / text_length(&programs[i]) as f64;
     (0..times.len()).for_each(|i| print!("{:>10.3}", each(i)));
-    let spread = (1..times.len()).map(each).fold((f64::MAX, 0.0), |(least, most): (f64, f64), one| (least.min(one), most.max(one)));
-    println!("   apart {:.2}; one rule takes {:.2} us", spread.1 / spread.0, times[0] / 1e3);
+    let by_program = apart((1..times.len()).map(|i| times[i] / programs[i].len() as f64));
+    println!("   apart {:.2}, by the program's bytes {by_program:.2}; one rule takes {:.2} us", apart((1..times.len()).map(each)), times[0] / 1e3);
 }
 
 fn growth(drawn: &[u8], translation: &[u8]) {

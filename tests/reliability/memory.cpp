@@ -275,7 +275,7 @@ std::size_t most_stack(unsigned operation)
 {
     if (operation == calls::check_source) return 28 << 10;
     if (operation == calls::check_plain) return 224 << 10;
-    if (operation == calls::aspif) return 80 << 10;
+    if (operation == calls::aspif) return 96 << 10;
     return operation == calls::extend ? 72 << 10 : 4 << 10;
 }
 

@@ -1,3 +1,4 @@
 pub mod Pass
+pub mod Blocks
 pub mod Text
 pub mod Outcome

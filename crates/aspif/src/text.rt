@@ -65,13 +65,13 @@ pub fn measure_text(s: &[u8], bits: &[u64], counts: &[u32]) -> usize
 }
 
 // The text, to the start of `out`; where it ends.
-pub fn write_text(s: &[u8], bits: &[u64], counts: &[u32], out: &mut [u8]) -> usize
-    requires { ⌜ Holds (TextFits (now bits) (length (now out))) (now s) ⌝ }
+pub fn write_text(s: &[u8], rules: usize, bits: &[u64], counts: &[u32], out: &mut [u8]) -> usize
+    requires { ⌜ Holds (TextFits rules (now bits) (length (now out))) (now s) ⌝ }
     requires { ⌜ Ready (now bits) (now counts) ⌝ }
-    ensures { λ r. ⌜ ((w : Holds (TextFits (now (bits .entry)) (length (now (out .entry)))) (now (s .entry))) → Wrote (now (out .entry)) (now (out .exit)) 0 (textIn (now (bits .entry)) (w .program)) r) ⌝ }
+    ensures { λ r. ⌜ ((w : Holds (TextFits rules (now (bits .entry)) (length (now (out .entry)))) (now (s .entry))) → Wrote (now (out .entry)) (now (out .exit)) 0 (textIn (now (bits .entry)) (w .program)) r) ⌝ }
 {
     write_first(out);
-    let behind = write_rules(s, bits, counts, out, 10);
+    let behind = write_rules(s, rules, bits, counts, out, 10);
     let end = write_behind(bits, counts, out, behind);
     write_last(out, end)
 }

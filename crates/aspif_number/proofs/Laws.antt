@@ -4,3 +4,6 @@ pub mod Place
 pub mod Gained
 pub mod Run
 pub mod Program
+pub mod Gather
+pub mod Finish
+pub mod Block

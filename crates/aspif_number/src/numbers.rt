@@ -1,15 +1,13 @@
-// Numbers by the marks: a program's literals marked and the counts of words summed, a literal's number looked up.
+// Numbers by the marks: the counts of words summed, a literal's number looked up.
 
-use crate::marks::mark_rules;
 use crate::place::WORD;
 use mask::is_in;
 use mask::single_at;
 ghost use Prim.Native.Nat.{_+_, _*_, _≤_, _<_};
 ghost use mathlib.Core.Path.{_≡_};
 ghost use lib.ListN.{length};
-ghost use Rattle.record_walk.specs.Code.{Holds};
-ghost use Rattle.aspif_place.specs.Code.{words, marked, Marks, numberAtPlace};
-ghost use Rattle.aspif_number.specs.Code.{Empty, Few, Sums, Summed, Placed};
+ghost use Rattle.aspif_place.specs.Code.{words, marked, numberAtPlace};
+ghost use Rattle.aspif_number.specs.Code.{Few, Tallied, Sums, Summed};
 
 // Each count replaced by the sum of those before it.
 fn sum_counts(counts: &mut [u32])
@@ -26,17 +24,12 @@ fn sum_counts(counts: &mut [u32])
     }
 }
 
-// The literals that occur in a program numbered: their places marked in words that have no mark, and the marks below each word counted.
-pub fn number_literals(s: &[u8], bits: &mut [u64], counts: &mut [u32])
-    requires { ⌜ Holds Placed (now s) ⌝ }
-    requires { ⌜ length (now bits) ≡ words ⌝ }
-    requires { ⌜ length (now counts) ≡ words ⌝ }
-    requires { ⌜ Empty (now bits) ⌝ }
-    requires { ⌜ Empty (now counts) ⌝ }
-    ensures { λ _. ⌜ ((w : Holds Placed (now (s .entry))) → Marks (w .program) (now (bits .exit))) ⌝ }
-    ensures { λ _. ⌜ Summed (now (bits .exit)) (now (counts .exit)) ⌝ }
+// Counts of each word's marks made into those of the marks below it.
+pub fn sum_below(bits: &[u64], counts: &mut [u32])
+    requires { ⌜ length (now bits) ≤ words ⌝ }
+    requires { ⌜ Tallied (now bits) (now counts) ⌝ }
+    ensures { λ _. ⌜ Summed (now (bits .entry)) (now (counts .exit)) ⌝ }
 {
-    mark_rules(s, bits, counts);
     sum_counts(counts);
 }
 

@@ -3,3 +3,4 @@ pub mod Write
 pub mod Next
 pub mod Before
 pub mod Writing
+pub mod Begun

@@ -1,5 +1,5 @@
 -- Lists of bytes, and numbers in them (01, "Records": fields are unsigned, highest byte first).
--- In order: a list of bytes; a number's bytes and back, for fields of one, two and four bytes.
+-- In order: a list of bytes; a number's bytes and back, for fields of one, two and four bytes; eight bytes of a number, the lowest first.
 -- Not here: which fields a record has (`record`, `set`).
 -- Assumes nothing.
 use Prim.Native.Nat.{ℕ, _+_, _*_, _/_, _%_, _<_}
@@ -24,3 +24,9 @@ number high low = high * 256 + low
 -- the two-byte field of bs that starts at i
 abbrev pub numberAt : List ℕ → ℕ → ℕ
 numberAt bs i = number (getD bs i 0) (getD bs (i + 1) 0)
+
+-- the eight lowest bytes of v, the lowest first
+abbrev pub eightBytes : ℕ → List ℕ
+eightBytes v =
+    v % 256 ∷ v / 256 % 256 ∷ v / 65536 % 256 ∷ v / 16777216 % 256 ∷ v / 4294967296 % 256 ∷ v / 1099511627776 % 256 ∷ v / 281474976710656 % 256
+    ∷ v / 72057594037927936 % 256 ∷ []

@@ -14,3 +14,9 @@ write d at bs = take at d ++ (bs ++ drop (at + length bs) d)
 pub record Wrote (d e : List ℕ) (at : ℕ) (bs : List ℕ) (r : ℕ) : Type 0 where
   pub bytes : e ≡ write d at bs
   pub next : r ≡ at + length bs
+
+-- a slice d became e, as long: up to `at` it is as before, then bs stands up to r; what is behind may be anything
+pub record Begun (d e : List ℕ) (at : ℕ) (bs : List ℕ) (r : ℕ) : Type 0 where
+  pub same : length e ≡ length d
+  pub bytes : take r e ≡ take at d ++ bs
+  pub next : r ≡ at + length bs

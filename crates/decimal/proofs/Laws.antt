@@ -4,3 +4,6 @@ pub mod Stores
 pub mod Packed
 pub mod Few
 pub mod Runs
+pub mod Thousands
+pub mod Table
+pub mod Joined

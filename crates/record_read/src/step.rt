@@ -1,5 +1,6 @@
 // One record of a program, in its own part of the slice: document 01's tests in their order.
 
+use crate::Front;
 use buffer::get::get_number;
 use literal::Limits;
 use literal::Tag;
@@ -13,14 +14,16 @@ use record::Run;
 use record::Step;
 ghost use Prim.Native.Nat.{_+_, _*_, _≤_, _<_};
 ghost use mathlib.Core.Path.{_≡_};
+ghost use mathlib.Core.Bool.{false};
 ghost use lib.ListN.{length};
 ghost use Rattle.semantics.specs.Form.{keepsCounts};
 ghost use Rattle.record.specs.Refusal.{refusal};
 ghost use Rattle.record.specs.Reading.{literalsAt, markAt, tagRight, bodyAt, ruleAt, endAt, recordAt};
 ghost use Rattle.record.specs.Code.{runOf, signedKinds, stepOf};
+ghost use Rattle.record_read.specs.Code.{FrontAt};
 
 // A refusal at the record's first byte.
-fn refuse(reason: Reason) -> Step
+pub fn refuse(reason: Reason) -> Step
     ensures { λ r. ⌜ r ≡ Step.Refused (refusal reason 0) ⌝ }
 {
     Step::Refused(Refusal { reason, place: 0 })
@@ -134,27 +137,25 @@ fn read_body(lim: Limits, defeasible: bool, t: &[u8], heads: u8, positives: u8, 
     Step::Rule(size)
 }
 
-// A rule's record, where `held` rules came before: the header's tests in document 01's order, then the body.
-fn read_rule(lim: Limits, defeasible: bool, t: &[u8], held: usize) -> Step
-    ensures { λ r. ⌜ r ≡ stepOf (ruleAt lim defeasible held (now (t .entry))) ⌝ }
+// A rule's header, where `held` rules came before: its tests in document 01's order.
+fn read_header(lim: Limits, defeasible: bool, t: &[u8], held: usize) -> Front
+    requires { ⌜ (lim .defeasible ≡ false → defeasible ≡ false) ⌝ }
+    ensures { λ r. ⌜ FrontAt lim (now (t .entry)) (ruleAt lim defeasible held (now (t .entry))) r ⌝ }
 {
     if t.len() < 7 {
-        return refuse(Reason::HeaderCut);
+        return Front::Told(refuse(Reason::HeaderCut));
     }
     if lim.rules <= held {
-        return refuse(Reason::TooManyRules);
+        return Front::Told(refuse(Reason::TooManyRules));
     }
     let tag = get_tag(t, 2);
     if !is_tag_right(lim, defeasible, tag) {
-        return refuse(Reason::TagWrong);
+        return Front::Told(refuse(Reason::TagWrong));
     }
-    let heads = t[4];
-    let positives = t[5];
-    let nafs = t[6];
-    if !are_counts_kept(lim, heads as usize, positives as usize, nafs as usize) {
-        return refuse(Reason::TooManyLiterals);
+    if !are_counts_kept(lim, t[4] as usize, t[5] as usize, t[6] as usize) {
+        return Front::Told(refuse(Reason::TooManyLiterals));
     }
-    read_body(lim, defeasible, t, heads, positives, nafs)
+    Front::Literals(defeasible)
 }
 
 // The end record, where `held` rules came before.
@@ -174,17 +175,28 @@ fn read_end(t: &[u8], held: usize) -> Step
     Step::End
 }
 
+// What stands before a record's literals, where `held` rules came before: what the record is, or that its literals are to be read.
+pub fn read_front(lim: Limits, t: &[u8], held: usize) -> Front
+    ensures { λ r. ⌜ FrontAt lim (now (t .entry)) (recordAt lim held (now (t .entry))) r ⌝ }
+{
+    if t.len() < 2 {
+        return Front::Told(refuse(Reason::MarkCut));
+    }
+    let mark = mark_of(lim, t);
+    match mark {
+        Mark::RuleMark(defeasible) => read_header(lim, defeasible, t, held),
+        Mark::EndMark => Front::Told(read_end(t, held)),
+        Mark::NoMark => Front::Told(refuse(Reason::MarkWrong)),
+    }
+}
+
 // One record, at the part's start, where `held` rules came before.
 pub fn read_record(lim: Limits, t: &[u8], held: usize) -> Step
     ensures { λ r. ⌜ r ≡ stepOf (recordAt lim held (now (t .entry))) ⌝ }
 {
-    if t.len() < 2 {
-        return refuse(Reason::MarkCut);
-    }
-    let mark = mark_of(lim, t);
-    match mark {
-        Mark::RuleMark(defeasible) => read_rule(lim, defeasible, t, held),
-        Mark::EndMark => read_end(t, held),
-        Mark::NoMark => refuse(Reason::MarkWrong),
+    let front = read_front(lim, t, held);
+    match front {
+        Front::Told(step) => step,
+        Front::Literals(defeasible) => read_body(lim, defeasible, t, t[4], t[5], t[6]),
     }
 }

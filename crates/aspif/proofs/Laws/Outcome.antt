@@ -32,42 +32,50 @@ use Rattle.aspif_place.specs.Code.{Marks}
 use Rattle.aspif_place.proofs.Laws.Limits.{plain-placeable}
 use Rattle.aspif_number.specs.Code.{Placed}
 use Rattle.aspif.specs.Aspif.{aspifBytes, exported}
-use Rattle.aspif.specs.Code.{textIn, Numberable, TextFits, Within, outcomeIn, outcomeOf, Exportable, enough}
+use Rattle.aspif.specs.Code.{textIn, Numberable, Counted, TextFits, Within, outcomeIn, outcomeOf, Exportable, enough}
 use Rattle.aspif.proofs.Laws.Text.{numberable, text-enough, text-marked}
 
 -- a program within the limits, as the passes ask for it
-module _ {F : Limits} {s : List ℕ} (ok : Exportable F) (w : Holds (Within F) s) where
-  abbrev pub holds-numberable : Holds Numberable s
-  holds-numberable = record { program = w .program; bytes = w .bytes; asked = numberable F ok (w .program) (w .asked) }
+module _ {F : Limits} {n : ℕ} {s : List ℕ} (ok : Exportable F) (w : Holds (Within F n) s) where
+  abbrev made : Numberable (w .program)
+  made = numberable F ok (w .program) (w .asked .kept)
+
+  abbrev pub holds-counted : Holds (Counted n) s
+  holds-counted = record { program = w .program; bytes = w .bytes; asked = record { numberable = made; count = w .asked .count } }
 
   abbrev pub holds-placed : Holds Placed s
-  holds-placed = record { program = w .program; bytes = w .bytes; asked = numberable F ok (w .program) (w .asked) .placed }
+  holds-placed = record { program = w .program; bytes = w .bytes; asked = made .placed }
 
   -- it is short
   pub held-short : length s < 500000
-  held-short = omega (arith, ap length (w .bytes), numberable F ok (w .program) (w .asked) .short)
+  held-short = omega (arith, ap length (w .bytes), made .short)
 
   -- where there is enough room for any text, its text has room
-  abbrev pub roomy : (bits : List ℕ) (room : ℕ) → Marks (w .program) bits → enough F (length s) ≤ room → Holds (TextFits bits room) s
+  abbrev pub roomy : (bits : List ℕ) (room : ℕ) → Marks (w .program) bits → enough F (length s) ≤ room → Holds (TextFits n bits room) s
   roomy bits room marks h =
       record {
         program = w .program;
         bytes = w .bytes;
         asked = record {
-          numberable = numberable F ok (w .program) (w .asked);
+          counted = record { numberable = made; count = w .asked .count };
           fits = omega (
             arith,
             h,
-            ap length (text-marked F ok (w .program) (w .asked) bits marks),
-            text-enough F ok (w .program) (w .asked),
+            ap length (text-marked F ok (w .program) (w .asked .kept) bits marks),
+            text-enough F ok (w .program) (w .asked .kept),
             ap length (w .bytes),
           );
         };
       }
 
+-- to be measured, it need not be counted
+abbrev pub holds-numberable : {n : ℕ} {s : List ℕ} → Holds (Counted n) s → Holds Numberable s
+holds-numberable w = record { program = w .program; bytes = w .bytes; asked = w .asked .numberable }
+
 -- measured, the text has room
-abbrev pub measured-fits : {bits s : List ℕ} {room : ℕ} (w : Holds Numberable s) → length (textIn bits (w .program)) ≤ room → Holds (TextFits bits room) s
-measured-fits w h = record { program = w .program; bytes = w .bytes; asked = record { numberable = w .asked; fits = h } }
+abbrev pub measured-fits : {n : ℕ} {bits s : List ℕ} {room : ℕ} (w : Holds (Counted n) s) → length (textIn bits (w .program)) ≤ room
+    → Holds (TextFits n bits room) s
+measured-fits w h = record { program = w .program; bytes = w .bytes; asked = record { counted = w .asked; fits = h } }
 
 module _ (bits : List ℕ) (p : Program) (out : List ℕ) where
   -- 9 where the buffer is shorter than the text
@@ -99,8 +107,8 @@ module _ (F : Limits) (s out : List ℕ) where
     told = read-count (parsed F s) count e
 
     -- the program that was read
-    pub given : Holds (Within F) s
-    given = holds-read (Within F) F s (told .0) bytes (told .1) (λ k. k)
+    pub given : Holds (Within F count) s
+    given = holds-read (Within F count) F s (told .0) bytes (told .1) (λ k. record { kept = k; count = told .2 })
 
     -- what is delivered of it is the outcome
     pub given-met : {r : Written} {d : List ℕ} → Meets (outcomeOf (given .program) out) r d → Meets (exported F s out) r d
@@ -116,4 +124,4 @@ meets-same F G s out {r} {e} same m = subst (λ (H : Limits). Meets (exported H 
 pub exportable-plain : Exportable plain
 unfolding plain
 exportable-plain =
-    record { placeable = plain-placeable; short = omega arith; heads = omega arith; bodies = omega arith; atoms = omega arith }
+    record { strict = refl; placeable = plain-placeable; short = omega arith; heads = omega arith; bodies = omega arith; atoms = omega arith; literals = omega arith }

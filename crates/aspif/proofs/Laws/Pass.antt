@@ -12,7 +12,7 @@ use Rattle.buffer.proofs.Laws.Write.{write-nil}
 use Rattle.buffer.proofs.Laws.Writing.{wrote-then}
 use Rattle.semantics.specs.Rule.{Rule, Program}
 use Rattle.record_walk.specs.Code.{recordSize}
-use Rattle.record_walk.proofs.Laws.Walk.{More}
+use Rattle.record_walk.proofs.Laws.Walk.{Walk, More}
 use Rattle.aspif_meaning.specs.Ground.{GroundRule}
 use Rattle.aspif_meaning.specs.Program.{numbered}
 use Rattle.aspif_text.specs.Text.{rule, ruleLine, line, lines}
@@ -46,25 +46,12 @@ module _ (bits : List ℕ) where
     here : ruleLine (groundAt bits t) ≡ ruleLine (numbered (numberIn bits) (m .the-rule))
     here = ap ruleLine (rule-ground bits t (m .the-rule) (m .starts))
 
-    -- the lines of the rules that are gone and of the next one
-    pub lines-next : ruleLines bits (gone ++ m .the-rule ∷ []) ≡ ruleLines bits gone ++ ruleLine (groundAt bits t)
-    lines-next =
-        lines-of gone (m .the-rule ∷ []) ∙ ap (λ (bs : List ℕ). ruleLines bits gone ++ bs)
+    -- the lines of some rules and of the next one
+    pub lines-more : (q : Program) → ruleLines bits (q ++ m .the-rule ∷ []) ≡ ruleLines bits q ++ ruleLine (groundAt bits t)
+    lines-more q =
+        lines-of q (m .the-rule ∷ []) ∙ ap (λ (bs : List ℕ). ruleLines bits q ++ bs)
         (lines-one (m .the-rule) [] ∙ ap (λ (bs : List ℕ). ruleLine (numbered (numberIn bits) (m .the-rule)) ++ bs) lines-none
         ∙ append-nil (ruleLine (numbered (numberIn bits) (m .the-rule))) ∙ sym here)
-
-    -- they are among the program's
-    pub next-within : length (ruleLines bits gone) + length (ruleLine (groundAt bits t)) ≤ length (ruleLines bits p)
-    next-within =
-        omega (
-          arith,
-          ap (λ (q : Program). length (ruleLines bits q)) (m .split),
-          ap length (lines-of gone (m .the-rule ∷ m .behind)),
-          length-append (ruleLines bits gone) (ruleLines bits (m .the-rule ∷ m .behind)),
-          ap length (lines-one (m .the-rule) (m .behind)),
-          length-append (ruleLine (numbered (numberIn bits) (m .the-rule))) (ruleLines bits (m .behind)),
-          ap length here,
-        )
 
     -- its record can be read in numbers
     pub next-readable : (counts : List ℕ) → Placed p → Ready bits counts → Readable bits t
@@ -82,7 +69,7 @@ pub measured-next : {bits s t : List ℕ} {p gone : Program} {at total : ℕ} (m
     → Long r (ruleLine (groundAt bits t)) (12 * recordSize t) → n ≡ recordSize t → Measured bits (at + n) (total + r) (gone ++ m .the-rule ∷ [])
 measured-next {bits} {t = t} {gone = gone} m w r n long size =
     record {
-      long = omega (arith, w .long, long .long, ap length (lines-next bits m), length-append (ruleLines bits gone) (ruleLine (groundAt bits t)));
+      long = omega (arith, w .long, long .long, ap length (lines-more bits m gone), length-append (ruleLines bits gone) (ruleLine (groundAt bits t)));
       short = omega (arith, w .short, long .short, size);
     }
 
@@ -91,8 +78,24 @@ pub written-start : (bits out : List ℕ) (to : ℕ) → Wrote out out to (ruleL
 written-start bits out to =
     subst (λ (bs : List ℕ). Wrote out out to bs to) (sym (lines-none bits)) (record { bytes = sym (write-nil out to); next = sym (add-zero to) })
 
-pub written-next : (bits : List ℕ) {s t out₀ out e : List ℕ} {p gone : Program} {at to next r : ℕ} (m : More s p gone at t) → to ≤ length out₀
-    → Wrote out₀ out to (ruleLines bits gone) next → Wrote out e next (ruleLine (groundAt bits t)) r
-    → Wrote out₀ e to (ruleLines bits (gone ++ m .the-rule ∷ [])) r
-written-next bits {out₀ = out₀} {e = e} {to = to} {r = r} m within w v =
-    subst (λ (bs : List ℕ). Wrote out₀ e to bs r) (sym (lines-next bits m)) (wrote-then within w v)
+-- a block's lines behind them
+pub written-more : (bits : List ℕ) {out₀ out e : List ℕ} {to next r : ℕ} (gone block : Program) (bs : List ℕ) → to ≤ length out₀ → bs ≡ ruleLines bits block
+    → Wrote out₀ out to (ruleLines bits gone) next → Wrote out e next bs r → Wrote out₀ e to (ruleLines bits (gone ++ block)) r
+written-more bits {out₀} {out} {e} {to} {next} {r} gone block bs within same w v =
+    subst (λ (cs : List ℕ). Wrote out₀ e to cs r) (sym (lines-of bits gone block))
+    (wrote-then within w (subst (λ (cs : List ℕ). Wrote out e next cs r) same v))
+
+-- they have room
+pub block-fits : (bits : List ℕ) {s : List ℕ} {p : Program} (gone block : Program) {at : ℕ} (bs : List ℕ) → Walk s p (gone ++ block) at
+    → bs ≡ ruleLines bits block
+    → length (ruleLines bits gone) + length bs ≤ length (ruleLines bits p)
+block-fits bits {p = p} gone block bs w same =
+    omega (
+      arith,
+      ap length same,
+      ap (λ (q : Program). length (ruleLines bits q)) (w .split),
+      ap length (lines-of bits (gone ++ block) (w .left)),
+      length-append (ruleLines bits (gone ++ block)) (ruleLines bits (w .left)),
+      ap length (lines-of bits gone block),
+      length-append (ruleLines bits gone) (ruleLines bits block),
+    )

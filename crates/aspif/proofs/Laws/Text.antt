@@ -7,15 +7,19 @@ use native.Mathlib.Omega.{arith}
 use mathlib.Core.Path.{_≡_, refl, sym, _∙_, ap, ap₂, subst}
 use mathlib.Core.Bool.{true, false}
 use mathlib.Core.List.{List, _++_, map, append-assoc, map-append}
-use lib.Dec.{T}
-use lib.ListN.{length, length-append}
+use lib.Dec.{T, le→leb}
+use lib.ListN.{length, length-append, length-map}
 use Rattle.buffer.specs.Write.{write, Wrote}
 use Rattle.buffer.proofs.Laws.Writing.{wrote, wrote-then}
 use Rattle.literal.specs.declared.Limits.{Limits}
+use Rattle.literal.specs.declared.Literal.the-variants.{Signed}
 use Rattle.literal.specs.Literal.{takes}
 use Rattle.semantics.specs.Set.{eachOf, setOf}
-use Rattle.semantics.specs.Rule.{Program}
-use Rattle.semantics.proofs.Laws.Tests.{Each, each-mem, each-intro}
+use Rattle.semantics.specs.Rule.{Rule, strict, defeasible, head, positive, naf, Program}
+use Rattle.semantics.specs.Form.{keepsRule}
+use Rattle.semantics.specs.Translation.{recordLength}
+use Rattle.semantics.proofs.Laws.Form.{kept}
+use Rattle.semantics.proofs.Laws.Tests.{Each, each-mem, each-intro, all-mem, all-intro}
 use Rattle.record.specs.Layout.{encodedProgram, keeps}
 use Rattle.record.proofs.Laws.Layout.{length-encoded-program}
 use Rattle.record.proofs.Laws.Keeps.{kept-program}
@@ -33,7 +37,7 @@ use Rattle.aspif_place.proofs.Laws.Place.{HasPlace, place-fits}
 use Rattle.aspif_place.proofs.Laws.Limits.{literals-placed-in, placed-below}
 use Rattle.aspif_place.proofs.Laws.Numbers.{ground-marked, names-marked}
 use Rattle.aspif_names.specs.Code.{signed, rowFrom, pairLines, nameLines}
-use Rattle.aspif.specs.Code.{ruleLines, behindRules, textIn, Numberable, Fitting, TextFits, Exportable, enough}
+use Rattle.aspif.specs.Code.{ruleLines, behindRules, textIn, isShort, Numberable, Fitting, TextFits, Exportable, enough}
 
 module _ (F : Limits) (ok : Exportable F) (p : Program) (k : T (keeps F p)) where
   taken : T (eachOf (takes F) (occurring p))
@@ -42,9 +46,24 @@ module _ (F : Limits) (ok : Exportable F) (p : Program) (k : T (keeps F p)) wher
   placed : Each HasPlace (occurring p)
   placed = literals-placed-in F (ok .placeable) p taken
 
-  -- a program within the limits has a place for each literal, and is short
+  -- no rule within the limits has many literals
+  rule-short : (r : Rule) → T (keepsRule F r) → T (isShort r)
+  unfolding recordLength head positive naf
+  rule-short (strict h b c) g =
+      let q = kept F (strict h b c) g in
+      le→leb (recordLength (strict h b c)) 327 (omega (arith, q .heads, q .positives, q .nafs, ok .literals))
+  rule-short (defeasible t h b c) g =
+      let q = kept F (defeasible t h b c) g in
+      le→leb (recordLength (defeasible t h b c)) 327 (omega (arith, q .heads, length-map h Signed, q .positives, q .nafs, ok .literals))
+
+  -- a program within the limits has a place for each literal, no long rule, and is short
   pub numberable : Numberable p
-  numberable = record { placed = placed-below F (ok .placeable) p taken; short = omega (arith, kept-program F p k .short, ok .short) }
+  numberable =
+      record {
+        placed = placed-below F (ok .placeable) p taken;
+        few = all-intro isShort p (λ r m. rule-short r (all-mem (keepsRule F) (kept-program F p k .each) m));
+        short = omega (arith, kept-program F p k .short, ok .short);
+      }
 
   -- there is enough room for its text
   pub text-enough : length (aspifText p) ≤ enough F (length (encodedProgram p))
@@ -135,10 +154,11 @@ text-wrote {d} {k = k} bits p n m r first rules behind last =
         ∙ append-assoc firstLine (ruleLines bits p) (behindRules bits ++ lastLine)
 
 -- where the text has room, the rules' lines have
-abbrev pub rules-fit : {bits s : List ℕ} {room : ℕ} → Holds (TextFits bits room) s → (n : ℕ) → n ≡ room → Holds (Fitting bits 10 n) s
-rules-fit {bits} w n e =
+abbrev pub rules-fit : {rules : ℕ} {bits s : List ℕ} {room : ℕ} → Holds (TextFits rules bits room) s → (n : ℕ) → n ≡ room
+    → Holds (Fitting rules bits 10 n) s
+rules-fit {bits = bits} w n e =
     record {
       program = w .program;
       bytes = w .bytes;
-      asked = record { numberable = w .asked .numberable; fits = omega (arith, e, w .asked .fits, length-text bits (w .program)) };
+      asked = record { counted = w .asked .counted; fits = omega (arith, e, w .asked .fits, length-text bits (w .program)) };
     }

@@ -1,5 +1,5 @@
 -- Places taken from bytes: the row of a kind, the place of five bytes in a slice, those of literals one behind the other.
--- In order: rows; a row's bound; a place in a slice; a literal's five bytes; a run of literals.
+-- In order: rows; a row's bound; a place in a slice; a literal's five bytes; a run of literals; how many places it has.
 -- Assumes nothing.
 use Prim.Native.Nat.{ℕ, zero, suc, _+_, _*_, _-_, _≤_, _<_}
 use native.Mathlib.Nat.{add-zero}
@@ -74,3 +74,9 @@ module _ (s : List ℕ) (at : ℕ) where
   unfolding placesAt
   places-none zero h = refl
   places-none (suc n) h = absurd (omega arith)
+
+-- there are as many places as literals
+pub length-places : (s : List ℕ) (at n : ℕ) → length (placesAt s at n) ≡ n
+unfolding placesAt
+length-places s at zero = refl
+length-places s at (suc n) = ap suc (length-places s (at + 5) n)

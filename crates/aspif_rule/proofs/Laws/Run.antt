@@ -1,6 +1,5 @@
 -- A run of literals, of which some are left: the next one's place and number, and those behind it.
--- In order: what is left; the next place, and what is left then; numbers; fields; what was measured; what was
--- written.
+-- In order: what is left; the next place, and what is left then; numbers; fields; what was measured.
 -- Assumes nothing.
 use Prim.Native.Nat.{ℕ, _+_, _*_, _-_, _≤_, _<_}
 use native.Mathlib.Omega.{arith}
@@ -9,8 +8,6 @@ use mathlib.Core.Bool.{Bool, false}
 use mathlib.Core.List.{List, [], _∷_, _++_, map}
 use lib.Dec.{T, ltb, ltb→lt}
 use lib.ListN.{length, drop, length-append}
-use Rattle.buffer.specs.Write.{Wrote}
-use Rattle.buffer.proofs.Laws.Writing.{Writing, writing-start, writing-next, writing-end}
 use Rattle.semantics.specs.Set.{eachOf}
 use Rattle.semantics.proofs.Laws.Tests.{first, second}
 use Rattle.aspif_text.specs.Text.{field, fields}
@@ -97,34 +94,3 @@ measuring-end {bits} {s} {from} {count} {at} {left} {total} m none =
       long = omega (arith, m .sum, ap (λ (ns : List ℕ). length (fields false ns)) (numbers-none bits s at left none));
       short = omega (arith, m .short);
     }
-
--- the fields of a run that are written, and those that are left
-pub record Filling (bits s : List ℕ) (b : Bool) (from count : ℕ) (out₀ out : List ℕ) (to at left next : ℕ) : Type 0 where
-  pub rest : Left s bits at left
-  pub writing : Writing out₀ out to next (fields b (numbersAt bits s from count)) (fields b (numbersAt bits s at left))
-
-pub filling-start : (bits s : List ℕ) (b : Bool) (from count : ℕ) (out : List ℕ) (to : ℕ) → from + 5 * count ≤ length s
-    → Room (length bits) (placesAt s from count) → to + length (fields b (numbersAt bits s from count)) ≤ length out
-    → Filling bits s b from count out out to from count to
-filling-start bits s b from count out to fits room h =
-    record { rest = record { fits = fits; room = room }; writing = writing-start out to (fields b (numbersAt bits s from count)) h }
-
-module _ {bits s : List ℕ} {b : Bool} {from count : ℕ} {out₀ out : List ℕ} {to at left next : ℕ} (w : Filling bits s b from count out₀ out to at left next) where
-  module _ (more : 0 < left) (i n : ℕ) (place : i ≡ placeAt (drop at s)) (number : n ≡ numberAtPlace bits i) where
-    split : Writing out₀ out to next (fields b (numbersAt bits s from count)) (field b n ++ fields b (numbersAt bits s (at + 5) (left - 1)))
-    split =
-        subst (Writing out₀ out to next (fields b (numbersAt bits s from count))) (fields-first (w .rest) more b i n place number) (w .writing)
-
-    -- there is room for the next field
-    pub filling-room : next + length (field b n) ≤ length out
-    filling-room = omega (arith, split .fits, length-append (field b n) (fields b (numbersAt bits s (at + 5) (left - 1))))
-
-    pub filling-next : {e : List ℕ} {r : ℕ} → Wrote out e next (field b n) r → Filling bits s b from count out₀ e to (at + 5) (left - 1) r
-    filling-next v =
-        record { rest = left-next (w .rest) more; writing = writing-next (field b n) (fields b (numbersAt bits s (at + 5) (left - 1))) split v }
-
-  pub filling-end : left ≤ 0 → Wrote out₀ out to (fields b (numbersAt bits s from count)) next
-  unfolding fields
-  filling-end none =
-      writing-end
-      (subst (Writing out₀ out to next (fields b (numbersAt bits s from count))) (ap (fields b) (numbers-none bits s at left none)) (w .writing))

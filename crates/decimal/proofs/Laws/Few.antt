@@ -10,11 +10,11 @@ use Rattle.decimal.specs.Code.{fourFigures}
 use Rattle.decimal.proofs.Laws.Decimal.{decimal-less, decimal-more}
 
 -- a number's figures by those of its tenth
-grown : (n : ℕ) (ds : List ℕ) → 10 ≤ n → decimal (n / 10) ≡ ds → decimal n ≡ ds ++ (figure (n % 10) ∷ [])
+pub grown : (n : ℕ) (ds : List ℕ) → 10 ≤ n → decimal (n / 10) ≡ ds → decimal n ≡ ds ++ (figure (n % 10) ∷ [])
 grown n ds h e = decimal-more n h ∙ ap (λ (bs : List ℕ). bs ++ (figure (n % 10) ∷ [])) e
 
 -- the same first figure, and the same others
-same : {x y : ℕ} {xs ys : List ℕ} → x ≡ y → xs ≡ ys → x ∷ xs ≡ y ∷ ys
+pub same : {x y : ℕ} {xs ys : List ℕ} → x ≡ y → xs ≡ ys → x ∷ xs ≡ y ∷ ys
 same first others = ap₂ (λ (z : ℕ) (zs : List ℕ). z ∷ zs) first others
 
 pub decimal-two : (n : ℕ) → 10 ≤ n → n < 100 → decimal n ≡ figure (n / 10) ∷ figure (n % 10) ∷ []

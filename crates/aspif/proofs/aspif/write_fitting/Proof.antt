@@ -6,7 +6,7 @@ use lib.ListN.{length}
 use borrow.Author.Needs.{needs}
 use denote.Ref.{now}
 use Rattle.aspif.specs.Code.{enough}
-use Rattle.aspif.proofs.Laws.Outcome.{holds-numberable, held-short, roomy, text-met}
+use Rattle.aspif.proofs.Laws.Outcome.{holds-counted, held-short, roomy, text-met}
 use Rattle.aspif.proofs.aspif.write_fitting.Statement.{statement}
 use Rattle.aspif.proofs.aspif.write_fitting.Tie as tie
 
@@ -23,13 +23,13 @@ write-measured-requires : tie.Need-write-measured-requires
 write-measured-requires c κs =
     let start = start-of (c .before .before) in
     let p = start .pre in
-    (holds-numberable (p .0) (p .1 .0), p .1 .1 .0)
+    (holds-counted (p .0) (p .1 .0), p .1 .1 .0)
 
 returns : tie.Need-returns
 returns c w =
     let at-write = c .before .before in
     let start = start-of (at-write .before .before .before) in
-    at-write .write-measured .ensures (holds-numberable (start .pre .0) w)
+    at-write .write-measured .ensures (holds-counted (start .pre .0) w)
 
 -- there is enough room
 wide : (c : tie.After-write-text-arg) → enough (start-of (c .before .before) .args .lim) (length (now (start-of (c .before .before) .args .s)))
