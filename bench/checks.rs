@@ -1,6 +1,6 @@
 //! The rows of the check, beside plain Rust with the same search and, where it is installed, clingo on the same question.
 
-use crate::drawn::{Numbers, LONGER_RULES, PLAIN_KINDS};
+use crate::drawn::{with_sheets, Numbers, LONGER_RULES, PLAIN_KINDS, RULES};
 use crate::limits::{Limits, PLAIN, SOURCE};
 use crate::plain_reader::record_size;
 use crate::sets::WithProgram;
@@ -55,8 +55,25 @@ fn source() -> Question {
     Question { program: program.end(), set: set_record(&set.into_iter().collect()) }
 }
 
-/// The longest plain program: rules of three and four literals over a set of as many as are checked, each kind in it. In eight
-/// rules, one is removed by its naf literal and one has a positive literal outside the set; the others are clauses.
+/// The longest source with preference sheets, over a set of as many atoms as are checked. Each rule has two heads in the set, and
+/// a body in it; no option that opposes another is there, so that of appended rules no clause is left. Each of them is looked at.
+fn sheets() -> Question {
+    const FIRST_OTHER: u16 = 101;
+    let mut numbers = Numbers(37);
+    let set: Vec<Literal> = (1..=SOURCE.checked as u16).map(atom).collect();
+    let others: Vec<Literal> = (FIRST_OTHER..=SOURCE.atoms - 12).map(atom).collect();
+    let program = with_sheets(|i| {
+        let mut heads = some(&mut numbers, 2, &set);
+        heads.extend(some(&mut numbers, 2, &others));
+        let size = SOURCE.positives;
+        let positives = if i < set.len() { vec![set[i]; size] } else { some(&mut numbers, size, &set) };
+        (heads, positives, some(&mut numbers, SOURCE.nafs, &others))
+    });
+    Question { program, set: set_record(&set.into_iter().collect()) }
+}
+
+/// A plain program of the longest kind without sheets: rules of three and four literals over a set of as many as are checked, each
+/// kind in it. In eight rules, one is removed by its naf literal and one has a positive literal outside the set; the others are clauses.
 fn plain() -> Question {
     let mut numbers = Numbers(13);
     let of_each_kind = |i: u16, number: u16| -> Literal {
@@ -67,7 +84,7 @@ fn plain() -> Question {
     let inside: Vec<Literal> = (0..size).map(|i| of_each_kind(i, 3 * i + 1)).collect();
     let outside: Vec<Literal> = (0..size).map(|i| of_each_kind(i, 3 * i + 2)).collect();
     let mut program = Program::default();
-    for i in 0..PLAIN.rules {
+    for i in 0..RULES {
         let positives = if i < LONGER_RULES { 2 } else { 1 };
         let (heads, mut body) = (some(&mut numbers, 1, &inside), some(&mut numbers, positives, &inside));
         let naf = some(&mut numbers, 1, if i % 8 == 3 { &inside } else { &outside });
@@ -304,7 +321,8 @@ fn hard_rows(name: &str, questions: &[Question], times: usize, step: usize, clin
 pub fn rows() {
     let clingo = Clingo::modes();
     row("check source", &SOURCE, exports::check_source, &source(), None);
-    row(&format!("check plain {}", PLAIN.rules), &PLAIN, exports::check_plain, &plain(), Some(&clingo));
+    row("check sheets", &SOURCE, exports::check_source, &sheets(), None);
+    row(&format!("check plain {RULES}"), &PLAIN, exports::check_plain, &plain(), Some(&clingo));
     println!("\nsearches             checks   proved ms   beside            ms  ratio");
     hard_rows("check hard", &mixed(), 3, 11, &clingo);
     hard_rows("check hard 4", &fours(), 3, 1, &clingo);

@@ -1,4 +1,5 @@
-//! Programs drawn by chance, the same in every run: the longest of each form, and sources of options alone.
+//! Programs drawn by chance, the same in every run: the longest sources, with preference sheets and without, sources of options
+//! alone, and plain programs as long as the translation of a source without sheets can be.
 
 use crate::limits::{PLAIN, SOURCE};
 use crate::writer::{self, rule_size, Literal, Program, END, LITERAL};
@@ -82,11 +83,71 @@ pub fn defeasible_options() -> Vec<u8> {
     source_of(OPTIONS_ALONE, |_| true)
 }
 
-/// How many rules of the longest plain program have four literals: the others have three, and the program its full length.
-pub const LONGER_RULES: usize = (PLAIN.length - END - PLAIN.rules * rule_size(3)) / LITERAL;
+/// The rules and bytes of the longest translation that a source without preference sheets has.
+pub const RULES: usize = SOURCE.rules * (3 * SOURCE.heads + 2);
+pub const LENGTH: usize = END + SOURCE.rules * (66 * SOURCE.heads + 5 * (SOURCE.positives + SOURCE.nafs) + 24);
 
-/// The longest plain program: as many rules as it may have, of three and four literals.
+/// How many rules of a plain program of that length have four literals: the others have three.
+pub const LONGER_RULES: usize = (LENGTH - END - RULES * rule_size(3)) / LITERAL;
+
+/// A plain program as long as such a translation, with as many rules, of three and four literals.
 pub fn plain() -> Vec<u8> {
-    let counts = (0..PLAIN.rules).map(|i| if i < LONGER_RULES { (1, 2, 1) } else { (1, 1, 1) });
+    let counts = (0..RULES).map(|i| if i < LONGER_RULES { (1, 2, 1) } else { (1, 1, 1) });
     program(counts, |_| false, PLAIN_KINDS)
+}
+
+/// The longest plain program: as many rules as it may have, of two and three literals.
+pub fn longest_plain() -> Vec<u8> {
+    const LONGER: usize = (PLAIN.length - END - PLAIN.rules * rule_size(2)) / LITERAL;
+    let counts = (0..PLAIN.rules).map(|i| if i < LONGER { (1, 1, 1) } else { (1, 1, 0) });
+    program(counts, |_| false, PLAIN_KINDS)
+}
+
+/// A plain program of the widest rules that is as long as can be, of defeat and derivation marks drawn from all there are: it has
+/// more different literals than sixteen bits count.
+pub fn widest_plain() -> Vec<u8> {
+    const WIDEST: usize = PLAIN.heads + PLAIN.positives + PLAIN.nafs;
+    let mut numbers = Numbers(41);
+    let mut out = Program::default();
+    for _ in 0..(PLAIN.length - END) / rule_size(WIDEST) {
+        let mut marks = |count: usize| -> Vec<Literal> {
+            let mut mark = |_| writer::literal(2 + numbers.below(4) as u8, numbers.upto(PLAIN.tags), numbers.upto(PLAIN.atoms));
+            (0..count).map(&mut mark).collect()
+        };
+        let (heads, positives, nafs) = (marks(PLAIN.heads), marks(PLAIN.positives), marks(PLAIN.nafs));
+        out.rule(0, &heads, &positives, &nafs);
+    }
+    out.end()
+}
+
+/// Sources in which each two records of preference sheets, an O: and an X:, append two rules, as many as can be: a record of
+/// each kind stands before every fourth rule. The first tag overrides each other one of 65; each rule has the 12 options of
+/// which each two oppose, and more that `more` draws, as its heads.
+pub fn with_sheets(mut more: impl FnMut(usize) -> (Vec<Literal>, Vec<Literal>, Vec<Literal>)) -> Vec<u8> {
+    const OPTIONS: usize = 12;
+    let tags = 1 + SOURCE.sheets;
+    let options: Vec<Literal> = (0..OPTIONS).map(|i| writer::literal((i % 2) as u8, 0, SOURCE.atoms - i as u16)).collect();
+    let mut pairs = (0..OPTIONS).flat_map(|i| (0..i).map(move |j| (i, j)));
+    let mut out = Program::default();
+    for i in 0..SOURCE.rules {
+        if i % (SOURCE.rules / SOURCE.sheets) == 0 {
+            let lower = 2 + i / (SOURCE.rules / SOURCE.sheets);
+            out.over(1, lower as u16);
+            let (one, other) = pairs.next().expect("there are enough of them");
+            out.oppose(options[one], options[other]);
+        }
+        let (heads, positives, nafs) = more(i);
+        out.rule(1 + (i % tags) as u16, &[&options[..], &heads].concat(), &positives, &nafs);
+    }
+    out.end()
+}
+
+/// The longest source with sheets: its translation is the longest plain program.
+pub fn sheets() -> Vec<u8> {
+    let mut numbers = Numbers(31);
+    with_sheets(|_| {
+        let heads = numbers.literals(SOURCE.heads - 12, OPTION_KINDS);
+        let positives = numbers.literals(SOURCE.positives, SOURCE_KINDS);
+        (heads, positives, numbers.literals(SOURCE.nafs, SOURCE_KINDS))
+    })
 }

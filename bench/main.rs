@@ -14,8 +14,10 @@ mod plain_aspif;
 mod plain_check;
 mod plain_reader;
 mod plain_sets;
+mod plain_sheets;
 mod plain_translator;
 mod sets;
+mod sheets;
 mod texts;
 mod writer;
 
@@ -113,10 +115,10 @@ fn output_row(name: &str, room: usize, mut proved: impl FnMut(&mut [u8]) -> u64,
     speed(name, length, (a, b), c);
 }
 
-fn translate_row(name: &str, source: &[u8]) {
+fn translate_row(name: &str, source: &[u8], room: usize) {
     output_row(
         name,
-        TIMES_LONGER * source.len(),
+        room,
         |out| exports::translate(black_box(source), out),
         |out| plain_translator::translate(black_box(source), out),
     );
@@ -128,11 +130,13 @@ fn main() {
     read_row("read plain", &plain(), &PLAIN, exports::read_plain);
     show_row("show source", &source(), &SOURCE, exports::show_source);
     show_row("show plain", &plain(), &PLAIN, exports::show_plain);
-    translate_row("translate all", &source());
-    translate_row("translate D:", &options());
+    for (name, source) in [("translate all", source()), ("translate D:", options())] {
+        translate_row(name, &source, TIMES_LONGER * source.len());
+    }
     sets::rows();
     texts::rows();
     checks::rows();
+    sheets::rows();
     growth::rows();
     output_sizes::rows();
 }

@@ -85,11 +85,17 @@ fn is_taken(literal: u64) -> bool {
     tag.wrapping_sub(kind.least) <= kind.more && number.wrapping_sub(1) < kind.numbers
 }
 
-/// Marks, and for each quarter of a word how many there are below it: sixteen bits each, for there are fewer than 65,536.
-struct Marks {
+/// Marks, and for each quarter of a word how many there are below it, sixteen bits each. A long program may have 65,536 and more:
+/// then the quarters from `beyond` on have so many more below them. Twice as many there never are.
+struct Marks<const LONG: bool> {
     bits: [u64; WORDS],
     below: [u64; WORDS],
+    beyond: usize,
 }
+
+/// Programs of so many bytes and more are long.
+const LONG_FROM: usize = LITERAL * MORE;
+const MORE: usize = 65_536;
 
 /// How many bits a byte has.
 const ONES: [u8; 256] = {
@@ -110,7 +116,13 @@ fn quarters(word: u64) -> u64 {
     (bytes + (bytes >> 8)) & 0x00FF_00FF_00FF_00FF
 }
 
-impl Marks {
+/// The sums of each two quarters, without what they carry.
+fn lanes_added(one: u64, other: u64) -> u64 {
+    const LOW: u64 = 0x7FFF_7FFF_7FFF_7FFF;
+    ((one & LOW) + (other & LOW)) ^ ((one ^ other) & !LOW)
+}
+
+impl<const LONG: bool> Marks<LONG> {
     /// Marks a program's literals, and counts the marks of each quarter if asked; none if the program is refused.
     fn read<const COUNTING: bool>(&mut self, program: &[u8]) -> Option<()> {
         let (mut at, mut held) = (0, 0);
@@ -140,11 +152,20 @@ impl Marks {
     fn sum<const COUNTED: bool>(&mut self) {
         const ALL: u64 = 0x0001_0001_0001_0001;
         let mut below = 0;
-        let rows = self.bits.chunks_exact(ROW_WORDS).zip(self.below.chunks_exact_mut(ROW_WORDS));
-        for (bits, counts) in rows.filter(|(bits, _)| bits.iter().fold(0, |all, word| all | word) != 0) {
-            for (word, count) in bits.iter().zip(counts) {
+        let rows = self.bits.chunks_exact(ROW_WORDS).zip(self.below.chunks_exact_mut(ROW_WORDS)).enumerate();
+        for (row, (bits, counts)) in rows.filter(|(_, (bits, _))| bits.iter().fold(0, |all, word| all | word) != 0) {
+            for (i, (word, count)) in bits.iter().zip(counts).enumerate() {
                 let upto = if COUNTED { *count } else { quarters(*word) }.wrapping_mul(ALL);
-                *count = (upto << 16) + below * ALL;
+                if LONG {
+                    *count = lanes_added(upto << 16, below % MORE as u64 * ALL);
+                    if self.beyond == usize::MAX && below + (upto >> 48) >= MORE as u64 {
+                        // The first quarter, of this word or the next one's first, with so many below it.
+                        let is_beyond = |quarter: &usize| below + ((upto << 16) >> (16 * quarter) & 0xFFFF) >= MORE as u64;
+                        self.beyond = 4 * (row * ROW_WORDS + i) + (0..4).find(is_beyond).unwrap_or(4);
+                    }
+                } else {
+                    *count = (upto << 16) + below * ALL;
+                }
                 below += upto >> 48;
             }
         }
@@ -168,7 +189,8 @@ impl Marks {
         let quarter = place % 64 / 16 * 16;
         let lower = (self.bits[place / 64] >> quarter) as u32 & ((1 << (place % 16)) - 1);
         let ones = ONES[(lower & 0xFF) as usize] + ONES[(lower >> 8 & 0xFF) as usize];
-        (self.below[place / 64] >> quarter) as u32 % 65_536 + u32::from(ones) + 1
+        let more = if LONG && place / 16 >= self.beyond { MORE as u32 } else { 0 };
+        (self.below[place / 64] >> quarter) as u32 % MORE as u32 + u32::from(ones) + 1 + more
     }
 
     /// The atoms that a word of a row marks.
@@ -195,8 +217,8 @@ impl Iterator for Bits {
 
 /// Each number's decimal, the first digit lowest, and in the highest byte how many digits there are.
 #[allow(long_running_const_eval)]
-static DECIMALS: [u64; 65_536] = {
-    let mut decimals = [0; 65_536];
+static DECIMALS: [u64; 2 * MORE] = {
+    let mut decimals = [0; 2 * MORE];
     let mut number = 0;
     while number < decimals.len() {
         let (mut digits, mut count, mut rest) = (b'0' as u64 + number as u64 % 10, 1, number as u64 / 10);
@@ -243,7 +265,7 @@ const fn field(text: [u8; 8]) -> u64 {
 
 /// The numbers of a part's literals, each behind these bytes.
 #[inline(always)]
-fn put_part(marks: &Marks, literals: &[u8], out: &mut [u8], mut to: usize, before: u64, length: usize) -> usize {
+fn put_part<const LONG: bool>(marks: &Marks<LONG>, literals: &[u8], out: &mut [u8], mut to: usize, before: u64, length: usize) -> usize {
     for literal in literals.chunks_exact(LITERAL) {
         to = put_number(out, to, before, length, decimal(marks.number(place(five(literal)))));
     }
@@ -252,7 +274,7 @@ fn put_part(marks: &Marks, literals: &[u8], out: &mut [u8], mut to: usize, befor
 
 /// The line of a rule with these counts, from its literals.
 #[inline(always)]
-fn put_rule(marks: &Marks, [h, b, c]: [usize; 3], literals: &[u8], out: &mut [u8], mut to: usize) -> usize {
+fn put_rule<const LONG: bool>(marks: &Marks<LONG>, [h, b, c]: [usize; 3], literals: &[u8], out: &mut [u8], mut to: usize) -> usize {
     let (heads, body) = literals.split_at(LITERAL * h);
     let (positives, nafs) = body.split_at(LITERAL * b);
     to = put_number(out, to, field(*b"1 0 \0\0\0\0"), 4, decimal(h as u32));
@@ -289,7 +311,7 @@ fn put_apart(out: &mut [u8], to: usize, line: impl FnOnce(&mut [u8]) -> usize) -
 }
 
 /// The rules' lines, all but the last in place: what they spoil the last one covers.
-fn put_rules(program: &[u8], marks: &Marks, out: &mut [u8], mut to: usize) -> usize {
+fn put_rules<const LONG: bool>(program: &[u8], marks: &Marks<LONG>, out: &mut [u8], mut to: usize) -> usize {
     let mut at = 0;
     while let Some(counts) = eight(program, at).and_then(counts) {
         let end = at + rule_size(counts.iter().sum());
@@ -304,7 +326,7 @@ fn put_rules(program: &[u8], marks: &Marks, out: &mut [u8], mut to: usize) -> us
 }
 
 /// The atoms marked both ways.
-fn clashes(marks: &Marks) -> impl Iterator<Item = usize> + '_ {
+fn clashes<const LONG: bool>(marks: &Marks<LONG>) -> impl Iterator<Item = usize> + '_ {
     (0..ROW_WORDS).flat_map(|word| {
         let (positive, negated) = (marks.numbers(0, word), marks.numbers(1, word));
         Bits { word: positive.word & negated.word, ..positive }
@@ -312,12 +334,12 @@ fn clashes(marks: &Marks) -> impl Iterator<Item = usize> + '_ {
 }
 
 /// The atoms of a row.
-fn atoms(marks: &Marks, row: usize) -> impl Iterator<Item = usize> + '_ {
+fn atoms<const LONG: bool>(marks: &Marks<LONG>, row: usize) -> impl Iterator<Item = usize> + '_ {
     (0..ROW_WORDS).flat_map(move |word| marks.numbers(row, word))
 }
 
 /// The constraints' and the names' lines, the last one apart, and the text's end.
-fn put_tail(marks: &Marks, out: &mut [u8], mut to: usize) -> usize {
+fn put_tail<const LONG: bool>(marks: &Marks<LONG>, out: &mut [u8], mut to: usize) -> usize {
     for atom in clashes(marks) {
         to = put_constraint(marks.number(atom), marks.number(ROW + atom), out, to);
     }
@@ -340,7 +362,7 @@ fn digits(number: u32) -> usize {
 }
 
 /// The text's length.
-fn measure(program: &[u8], marks: &Marks) -> usize {
+fn measure<const LONG: bool>(program: &[u8], marks: &Marks<LONG>) -> usize {
     let (mut at, mut length) = (0, "asp 1 0 0\n0\n".len());
     while let Some([h, b, c]) = eight(program, at).and_then(counts) {
         length += "1 0  0 \n".len() + digits(h as u32) + digits((b + c) as u32) + (h + b + c) + c;
@@ -362,7 +384,15 @@ fn measure(program: &[u8], marks: &Marks) -> usize {
 }
 
 pub fn aspif(program: &[u8], out: &mut [u8]) -> u64 {
-    let mut marks = Marks { bits: [0; WORDS], below: [0; WORDS] };
+    if program.len() < LONG_FROM {
+        write_text::<false>(program, out)
+    } else {
+        write_text::<true>(program, out)
+    }
+}
+
+fn write_text<const LONG: bool>(program: &[u8], out: &mut [u8]) -> u64 {
+    let mut marks = Marks::<LONG> { bits: [0; WORDS], below: [0; WORDS], beyond: usize::MAX };
     if marks.number_all(program).is_none() {
         return read(&PLAIN, program);
     }

@@ -2,8 +2,9 @@
 //! same word, the same witness. The program is read once into clauses over the set's positions; the search goes on those.
 
 use crate::limits::Limits;
-use crate::plain_reader::{read, refusal};
+use crate::plain_reader::{read_whole, refusal};
 use crate::plain_sets::{key, read_set, Rules, Set};
+use crate::plain_sheets::Appended;
 use crate::plain_translator::Out;
 use crate::writer::{set_header, set_size, LITERAL};
 
@@ -35,7 +36,7 @@ fn clash(set: &Set) -> Option<u64> {
 }
 
 /// The clauses of the quotient, or the number of the first rule that does not hold in the set.
-fn clauses(program: &[u8], rules: usize, set: &Set) -> Result<Vec<Clause>, u64> {
+fn clauses(program: &[u8], rules: usize, appended: &Appended, set: &Set) -> Result<Vec<Clause>, u64> {
     let mut clauses = Vec::with_capacity(rules);
     for (rule, number) in Rules(program).zip(1..) {
         let Some(left) = rule.left(set) else { continue };
@@ -50,7 +51,26 @@ fn clauses(program: &[u8], rules: usize, set: &Set) -> Result<Vec<Clause>, u64> 
         }
         clauses.push(Clause { body, head });
     }
+    append_clauses(&mut clauses, rules as u64, appended, set)?;
     Ok(clauses)
+}
+
+/// The clauses of appended rules, of which none is removed: each has one literal in its body, and one in its head.
+fn append_clauses(clauses: &mut Vec<Clause>, rules: u64, appended: &Appended, set: &Set) -> Result<(), u64> {
+    let bodies: Vec<Option<u64>> = appended.ways.iter().map(|way| bit(set, way.option())).collect();
+    if bodies.iter().all(Option::is_none) {
+        return Ok(());
+    }
+    let mut number = rules;
+    for (i, lower) in appended.lowers.iter().enumerate() {
+        for (way, body) in appended.ways.iter().zip(&bodies).filter(|(way, _)| way.is_under(i)) {
+            number += 1;
+            let Some(body) = *body else { continue };
+            let head = bit(set, &way.mark(*lower)).ok_or(number)?;
+            clauses.push(Clause { body, head });
+        }
+    }
+    Ok(())
 }
 
 /// What a mask has besides its lowest position.
@@ -170,10 +190,7 @@ fn write_picked(set: &Set, model: u64, out: &mut [u8]) -> u64 {
 }
 
 fn verdict(limits: &Limits, program: &[u8], record: &[u8], out: &mut [u8]) -> Result<u64, u64> {
-    let held = read(limits, program);
-    if held >> 63 == 1 {
-        return Err(held);
-    }
+    let held = read_whole(limits, program)?;
     let set = read_set(limits, limits.checked, record)?;
     if out.len() < record.len() {
         return Err(refusal(9, 0));
@@ -181,7 +198,8 @@ fn verdict(limits: &Limits, program: &[u8], record: &[u8], out: &mut [u8]) -> Re
     if let Some(position) = clash(&set) {
         return Ok((1 << 32) + position);
     }
-    let clauses = match clauses(program, held as usize, &set) {
+    let appended = if held.has_sheets { Appended::of(program) } else { Appended::default() };
+    let clauses = match clauses(program, held.rules, &appended, &set) {
         Ok(clauses) => clauses,
         Err(rule) => return Ok((2 << 32) + rule),
     };

@@ -1,7 +1,7 @@
 //! A careful reader in plain safe Rust, the measure for the proved one: the same tests in the same order, the same word.
 
 use crate::limits::Limits;
-use crate::writer::{rule_size, END, LITERAL, RULE_HEADER};
+use crate::writer::{rule_size, sheet_size, END, LITERAL, OPPOSITION, OVERRIDE, RULE_HEADER};
 
 pub fn refusal(number: u64, place: usize) -> u64 {
     (1 << 63) + (number << 32) + place as u64
@@ -54,35 +54,88 @@ fn rule(limits: &Limits, options: bool, part: &[u8], held: usize, at: usize) -> 
     Ok(size)
 }
 
-pub fn read(limits: &Limits, bytes: &[u8]) -> u64 {
-    if bytes.len() > limits.length {
-        return refusal(1, 0);
+/// How many records of sheets are held, of each kind.
+#[derive(Default)]
+struct Sheets {
+    overrides: usize,
+    oppositions: usize,
+}
+
+/// The length of the sheet's record at the start of `part`, or its refusal. Apart from the rest: most sources have none.
+#[cold]
+#[inline(never)]
+fn sheet(limits: &Limits, part: &[u8], held: &mut Sheets, at: usize) -> Result<usize, u64> {
+    let is_override = part[..2] == *b"O:";
+    if limits.sheets == 0 || !is_override && part[..2] != *b"X:" {
+        return Err(refusal(3, at));
     }
-    let (mut at, mut held) = (0, 0);
+    let (count, size) =
+        if is_override { (&mut held.overrides, OVERRIDE) } else { (&mut held.oppositions, OPPOSITION) };
+    if *count >= limits.sheets {
+        return Err(refusal(4, at));
+    }
+    *count += 1;
+    if part.len() < size {
+        return Err(refusal(2, at));
+    }
+    let (first, second) = part[2..size].split_at((size - 2) / 2);
+    if is_override {
+        if [first, second].iter().any(|tag| !(1..=limits.tags).contains(&number(tag))) {
+            return Err(refusal(6, at));
+        }
+    } else {
+        for (i, option) in [first, second].into_iter().enumerate() {
+            if option[0] > 1 || !is_literal(limits, option) {
+                return Err(refusal(5, at + 2 + LITERAL * i));
+            }
+        }
+    }
+    if first == second {
+        return Err(refusal(14, at));
+    }
+    Ok(size)
+}
+
+/// What a program that was read holds.
+pub struct Held {
+    pub rules: usize,
+    pub has_sheets: bool,
+}
+
+pub fn read(limits: &Limits, bytes: &[u8]) -> u64 {
+    match read_whole(limits, bytes) {
+        Ok(held) => held.rules as u64,
+        Err(word) => word,
+    }
+}
+
+/// What the program holds, or its refusal.
+pub fn read_whole(limits: &Limits, bytes: &[u8]) -> Result<Held, u64> {
+    if bytes.len() > limits.length {
+        return Err(refusal(1, 0));
+    }
+    let (mut at, mut held, mut sheets) = (0, 0, Sheets::default());
     loop {
         let part = &bytes[at..];
         if part.len() < 2 {
-            return refusal(2, at);
+            return Err(refusal(2, at));
         }
         match &part[..2] {
-            b"S:" => match rule(limits, false, part, held, at) {
-                Ok(size) => at += size,
-                Err(word) => return word,
-            },
-            b"D:" if limits.defeasible => match rule(limits, true, part, held, at) {
-                Ok(size) => at += size,
-                Err(word) => return word,
-            },
+            b"S:" => at += rule(limits, false, part, held, at)?,
+            b"D:" if limits.defeasible => at += rule(limits, true, part, held, at)?,
             b"E:" => {
                 if part.len() < END {
-                    return refusal(2, at);
+                    return Err(refusal(2, at));
                 }
                 if number(&part[2..4]) as usize != held || part.len() != END {
-                    return refusal(8, at);
+                    return Err(refusal(8, at));
                 }
-                return held as u64;
+                return Ok(Held { rules: held, has_sheets: sheets.overrides + sheets.oppositions > 0 });
             }
-            _ => return refusal(3, at),
+            _ => {
+                at += sheet(limits, part, &mut sheets, at)?;
+                continue;
+            }
         }
         held += 1;
     }
@@ -95,14 +148,24 @@ pub fn record_size(part: &[u8]) -> usize {
 
 /// Where the record of a rule lies, from 1: its start and its length. The program is read, then its records are passed.
 pub fn show(limits: &Limits, bytes: &[u8], rule: u32) -> u64 {
-    let held = read(limits, bytes);
-    if held >> 63 == 1 {
-        return held;
-    }
-    if rule == 0 || u64::from(rule) > held {
+    let held = match read_whole(limits, bytes) {
+        Ok(held) => held,
+        Err(word) => return word,
+    };
+    if rule == 0 || rule as usize > held.rules {
         return refusal(13, 0);
     }
     let size = |at: usize| record_size(&bytes[at..]);
-    let start = (1..rule).fold(0, |at, _| at + size(at));
+    let behind_sheets = |mut at: usize| {
+        while matches!(bytes[at], b'O' | b'X') {
+            at += sheet_size(bytes[at]);
+        }
+        at
+    };
+    let start = if held.has_sheets {
+        (1..rule).fold(behind_sheets(0), |at, _| behind_sheets(at + size(at)))
+    } else {
+        (1..rule).fold(0, |at, _| at + size(at))
+    };
     ((start as u64) << 32) + size(start) as u64
 }

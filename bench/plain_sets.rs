@@ -2,9 +2,11 @@
 //! same order, the same bytes, the same word.
 
 use crate::limits::{Limits, PLAIN, SOURCE};
-use crate::plain_reader::{is_literal, number, read, refusal};
+use crate::plain_reader::{is_literal, number, read, read_whole, refusal};
+use crate::plain_sheets::{Appended, APPENDED};
 use crate::plain_translator::{mark, Out};
-use crate::writer::{end_record, literal, rule_size, set_header, set_size, END, LITERAL, RULE_HEADER, SET_HEADER};
+use crate::writer::{end_record, literal, rule_size, set_header, set_size, sheet_size};
+use crate::writer::{END, LITERAL, RULE_HEADER, SET_HEADER};
 
 /// A literal's five bytes as one number: the order of numbers is the order of byte strings.
 pub fn key(literal: &[u8]) -> u64 {
@@ -64,15 +66,18 @@ pub struct Rule<'a> {
     pub nafs: &'a [u8],
 }
 
-/// The rules of a program that was read, in order.
+/// The rules that are written in a program that was read, in order.
 pub struct Rules<'a>(pub &'a [u8]);
 
 impl<'a> Iterator for Rules<'a> {
     type Item = Rule<'a>;
 
     fn next(&mut self) -> Option<Rule<'a>> {
-        if self.0[0] == b'E' {
-            return None;
+        while self.0[0] != b'S' && self.0[0] != b'D' {
+            if self.0[0] == b'E' {
+                return None;
+            }
+            self.0 = &self.0[sheet_size(self.0[0])..];
         }
         let (header, rest) = self.0.split_at(RULE_HEADER);
         let (heads, rest) = rest.split_at(LITERAL * header[4] as usize);
@@ -105,14 +110,12 @@ impl<'a> Rule<'a> {
 }
 
 fn write_quotient(limits: &Limits, program: &[u8], set: &[u8], out: &mut [u8]) -> Result<usize, u64> {
-    let held = read(limits, program);
-    if held >> 63 == 1 {
-        return Err(held);
-    }
+    let held = read_whole(limits, program)?;
     let set = read_set(limits, limits.set, set)?;
-    // What is left of each rule is searched for once, and kept for writing.
-    let mut kept = Vec::with_capacity(held as usize);
-    let mut length = END;
+    // What is left of each rule is searched for once, and kept for writing. Of appended rules all is left.
+    let appended = if held.has_sheets { Appended::of(program) } else { Appended::default() };
+    let mut kept = Vec::with_capacity(held.rules);
+    let mut length = END + APPENDED * appended.count();
     for rule in Rules(program) {
         let left = rule.left(&set);
         if let Some(heads) = left {
@@ -139,7 +142,8 @@ fn write_quotient(limits: &Limits, program: &[u8], set: &[u8], out: &mut [u8]) -
         out.put(rule.positives);
         rules += 1;
     }
-    out.put(&end_record(rules));
+    appended.write(&mut out);
+    out.put(&end_record(rules + appended.count() as u16));
     Ok(length)
 }
 

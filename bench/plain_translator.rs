@@ -1,7 +1,8 @@
 //! A careful translator in plain safe Rust, the measure for the proved one: read, measure, write; the same bytes, the same word.
 
 use crate::limits::SOURCE;
-use crate::plain_reader::{read, refusal};
+use crate::plain_reader::{read_whole, refusal};
+use crate::plain_sheets::{without_sheets, Appended, APPENDED};
 use crate::writer::{end_record, literal, rule_header, rule_size, Literal, END, LITERAL, RULE_HEADER};
 
 /// The length of a record, of what its rule becomes, and the number of rules that it becomes.
@@ -70,11 +71,16 @@ fn write_defeasible(number: u16, record: &[u8], out: &mut Out) {
 }
 
 pub fn translate(source: &[u8], out: &mut [u8]) -> u64 {
-    let word = read(&SOURCE, source);
-    if word >> 63 == 1 {
-        return word;
+    match read_whole(&SOURCE, source) {
+        Ok(held) if held.has_sheets => translate_rules(&without_sheets(source), &Appended::of(source), out),
+        Ok(_) => translate_rules(source, &Appended::default(), out),
+        Err(word) => word,
     }
-    let (mut at, mut length, mut made) = (0, END, 0);
+}
+
+/// The translation of a source without sheets, and behind it what is appended.
+fn translate_rules(source: &[u8], appended: &Appended, out: &mut [u8]) -> u64 {
+    let (mut at, mut length, mut made) = (0, END + APPENDED * appended.count(), appended.count());
     while source[at] != b'E' {
         let (size, becomes, rules) = sizes(&source[at..]);
         at += size;
@@ -97,6 +103,7 @@ pub fn translate(source: &[u8], out: &mut [u8]) -> u64 {
         at += size;
         number += 1;
     }
+    appended.write(&mut out);
     out.put(&end_record(made as u16));
     length as u64
 }

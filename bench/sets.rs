@@ -92,8 +92,8 @@ fn row(
     );
 }
 
-fn quotient_row(name: &str, limits: &Limits, program: &[u8], set: &[u8], proved: WithProgram) {
-    row(name, (program, set), program.len(), proved, |program, set, out| {
+fn quotient_row(name: &str, limits: &Limits, program: &[u8], set: &[u8], room: usize, proved: WithProgram) {
+    row(name, (program, set), room, proved, |program, set, out| {
         plain_sets::quotient(black_box(limits), program, set, out)
     });
 }
@@ -112,12 +112,18 @@ fn restrict_row(name: &str, set: &[u8]) {
     );
 }
 
+/// A source with preference sheets, whose quotients have room in so many bytes.
+pub fn sheet_rows(source: &[u8], room: usize) {
+    quotient_row("quotient sheets", &SOURCE, source, &defeating(source), room, exports::quotient_source);
+    extend_row("extend sheets", source);
+}
+
 pub fn rows() {
     let (source, plain) = (source(), plain());
-    quotient_row("quotient source", &SOURCE, &source, &defeating(&source), exports::quotient_source);
+    quotient_row("quotient source", &SOURCE, &source, &defeating(&source), source.len(), exports::quotient_source);
     for size in [SOURCE.set, PLAIN.set] {
         let name = format!("quotient plain {size}");
-        quotient_row(&name, &PLAIN, &plain, &removing(&plain, size), exports::quotient_plain);
+        quotient_row(&name, &PLAIN, &plain, &removing(&plain, size), plain.len(), exports::quotient_plain);
     }
     extend_row("extend all", &defeasible_source());
     extend_row("extend D:", &defeasible_options());

@@ -1,9 +1,9 @@
 //! The rows of the export to aspif: beside plain Rust and a copy of the text, growth with the program, and beside gringo, where it is
 //! installed, that makes aspif of the same program as its own text.
 
-use crate::drawn::{defeasible_source, plain};
+use crate::drawn::{defeasible_source, plain, sheets, widest_plain, RULES};
 use crate::growth::best;
-use crate::limits::{PLAIN, TIMES_LONGER};
+use crate::limits::PLAIN;
 use crate::plain_aspif::{aspif, bound};
 use crate::plain_reader::{number, record_size};
 use crate::plain_sets::Rules;
@@ -16,13 +16,12 @@ use std::process::{Command, Stdio};
 use std::time::Instant;
 
 /// From 256 rules on, time for a byte is to stay level.
-const SIZES: [usize; 5] = [1, 256, 1_024, 4_096, PLAIN.rules];
+const SIZES: [usize; 5] = [1, 256, 1_024, 4_096, RULES];
 
-/// The translation of the longest source: as many rules as a plain program may have, of all shapes that translations have.
-fn translation() -> Vec<u8> {
-    let source = defeasible_source();
-    let mut out = vec![0; TIMES_LONGER * source.len()];
-    let length = exports::translate(&source, &mut out);
+/// A source's translation, with rules of all shapes that translations have: of the longest source as many as a plain program may have.
+fn translation(source: &[u8]) -> Vec<u8> {
+    let mut out = vec![0; PLAIN.length];
+    let length = exports::translate(source, &mut out);
     out.truncate(length as usize);
     out
 }
@@ -143,11 +142,14 @@ fn gringo_row(label: &str, program: &[u8]) {
 }
 
 pub fn rows() {
-    let (drawn, translation) = (plain(), translation());
+    let (drawn, translated) = (plain(), translation(&defeasible_source()));
     row("aspif", &drawn, bound(drawn.len()));
-    row("aspif translation", &translation, bound(translation.len()));
+    row("aspif translation", &translated, bound(translated.len()));
     row("aspif, exact room", &drawn, text_length(&drawn));
-    growth(&drawn, &translation);
+    let (with_sheets, widest) = (translation(&sheets()), widest_plain());
+    row("aspif sheets", &with_sheets, bound(with_sheets.len()));
+    row("aspif widest", &widest, bound(widest.len()));
+    growth(&drawn, &translated);
     println!("\nbeside gringo           bytes  proved MB/s  gringo MB/s  ratio");
     gringo_row("aspif", &drawn);
 }

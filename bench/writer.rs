@@ -7,6 +7,9 @@ pub const LITERAL: usize = 5;
 pub const RULE_HEADER: usize = 7;
 pub const SET_HEADER: usize = 4;
 pub const END: usize = 4;
+/// The bytes of a preference sheet's records.
+pub const OVERRIDE: usize = 6;
+pub const OPPOSITION: usize = 12;
 
 pub type Literal = [u8; LITERAL];
 
@@ -40,6 +43,15 @@ pub const fn rule_size(literals: usize) -> usize {
     RULE_HEADER + LITERAL * literals
 }
 
+/// The length of a sheet's record with this letter.
+pub const fn sheet_size(letter: u8) -> usize {
+    if letter == b'O' {
+        OVERRIDE
+    } else {
+        OPPOSITION
+    }
+}
+
 /// The length of a set's record with so many literals.
 pub const fn set_size(literals: usize) -> usize {
     SET_HEADER + LITERAL * literals
@@ -59,6 +71,18 @@ impl Program {
         self.bytes.extend(rule_header(tag, h, b, c));
         self.bytes.extend([heads, positives, nafs].concat().iter().flatten());
         self.rules += 1;
+    }
+
+    /// The first tag overrides the second.
+    pub fn over(&mut self, upper: u16, lower: u16) {
+        self.bytes.extend(b"O:");
+        self.bytes.extend([upper.to_be_bytes(), lower.to_be_bytes()].concat());
+    }
+
+    /// The two options oppose each other.
+    pub fn oppose(&mut self, one: Literal, other: Literal) {
+        self.bytes.extend(b"X:");
+        self.bytes.extend([one, other].concat());
     }
 
     /// The program's bytes, with the end record behind its rules.

@@ -1,10 +1,10 @@
 /* Yuldravn's functions for C. Link target/staticlib/libaspda.a (made by `rt staticlib aspda`).
  *
- * Every function answers one 64-bit word. A refusal is 2^63 + number * 2^32 + place, with document 01's number and the
- * byte offset of its place; all else is below 2^63. A pointer comes with its length and is never null; the slice that a
- * call writes to overlaps none of the others. The functions read and write nothing but the slices that they are lent and
- * their stack (220 KiB in the check of a plain program, 80 KiB in aspif, 70 KiB in extend, 24 KiB in the check of a source,
- * 1 KiB elsewhere), keep no state and take no other memory.
+ * Every function answers one 64-bit word. A refusal is 2^63 + number * 2^32 + place, with the number of documents 01 and 02
+ * and the byte offset of its place; all else is below 2^63. A pointer comes with its length and is never null; the slice
+ * that a call writes to overlaps none of the others. The functions read and write nothing but the slices that they are
+ * lent and their stack (356 KiB in the check of a source, 348 KiB in the check of a plain program, 266 KiB in extend, 220 KiB
+ * in translate and in the quotient of a source, 92 KiB in aspif, 1 KiB elsewhere), keep no state and take no other memory.
  */
 #ifndef ASPDA_H
 #define ASPDA_H
@@ -20,13 +20,29 @@ extern "C" {
 #define ASPDA_REFUSAL_NUMBER(word) ((uint32_t)(((word) >> 32) & 0x7fffffff))
 #define ASPDA_REFUSAL_PLACE(word) ((uint32_t)(word))
 
-/* The number of rules of the program in p[0 .. n). */
+/* A source has at most 64,388 bytes and 256 rules, a plain program at most 456,708 bytes and 20,992 rules.
+ *
+ * Preference sheets: a source may hold, anywhere before its end record, up to 64 O: records (4F 3A, two tags: the first
+ * overrides the second) and up to 64 X: records (58 3A, two literals of kind 0 or 1: they oppose). For each O: in order,
+ * each X: in order, and the pair (a, b) both ways, as written first: if a defeasible rule with the upper tag heads a and
+ * one with the lower tag heads b, the strict rule "defeated (lower, b) if a" is appended behind the written rules, unless
+ * it was appended before. Every function means the program with these rules, but reading and showing count the written
+ * ones alone, as the end record does. Refusal 14 is a record whose two tags or two literals are equal. A plain program has
+ * no sheets: there O: and X: are refusal 3. */
+
+/* The number of rules that are written in the program in p[0 .. n). */
 uint64_t aspda_read_source(const uint8_t *p, size_t n);
 uint64_t aspda_read_plain(const uint8_t *p, size_t n);
 
 /* The translation of the source in p[0 .. n), written to out[0 .. m): the number of bytes written. It is at most thirteen
- * times n. A refusal leaves out as it was; bytes behind the result are left as they were. */
+ * times the sum of n and 17 for each appended rule, and at most ASPDA_TRANSLATION_BOUND(n). A refusal leaves out as it
+ * was; bytes behind the result are left as they were. */
 uint64_t aspda_translate(const uint8_t *p, size_t n, uint8_t *out, size_t m);
+
+/* The bytes that appended rules can add to a translation or a quotient: 17 for each, and two rules for each two records.
+ * A source without O: or without X: records has none. */
+#define ASPDA_APPENDED_BOUND (17 * 2 * 64 * 64)
+#define ASPDA_TRANSLATION_BOUND(n) (13 * (size_t)(n) + ASPDA_APPENDED_BOUND)
 
 /* The plain program in p[0 .. n) as a text in aspif, the form that the solvers of the clingo family read, written to
  * out[0 .. m): the number of bytes written, at most ASPDA_ASPIF_BOUND(n). A literal's number is its place among those that
@@ -40,9 +56,10 @@ uint64_t aspda_aspif(const uint8_t *p, size_t n, uint8_t *out, size_t m);
  * program's comes first. What a function writes goes to the start of out[0 .. m), and its answer is the number of bytes
  * written. A refusal leaves out as it was; bytes behind the result are left as they were. */
 
-/* The quotient of the program in p[0 .. n) by the set: S: records with tag 0 and an end record. It is at most n bytes
- * long. A source's set holds at most 1,000 literals of the source form, a plain program's at most 5,352 of the plain
- * form. */
+/* The quotient of the program in p[0 .. n) by the set: S: records with tag 0 and an end record, what is left of appended
+ * rules behind the others. It is at most n bytes long, of a source with sheets at most n + ASPDA_APPENDED_BOUND. It is a
+ * plain program, and with sheets not always a source: it may have 8,448 rules. A source's set holds at most 1,000 literals
+ * of the source form, a plain program's at most 5,352 of the plain form. */
 uint64_t aspda_quotient_source(const uint8_t *p, size_t n, const uint8_t *s, size_t k, uint8_t *out, size_t m);
 uint64_t aspda_quotient_plain(const uint8_t *p, size_t n, const uint8_t *s, size_t k, uint8_t *out, size_t m);
 
@@ -59,7 +76,8 @@ uint64_t aspda_restrict(const uint8_t *s, size_t k, uint8_t *out, size_t m);
  *
  *     ASPDA_YES       it is; the value is 0
  *     ASPDA_CLASH     the position in the set, from 1, of the first literal whose opposite is in the set
- *     ASPDA_BROKEN    the number, from 1, of the first rule whose remainder in the quotient does not hold
+ *     ASPDA_BROKEN    the number, from 1, of the first rule whose remainder in the quotient does not hold; appended rules
+ *                     are counted behind the written ones
  *     ASPDA_SMALLER   the number of bytes written to out: an A: record of the first proper subset that is a model of
  *                     the quotient, subsets being compared literal by literal, absent before present
  *
@@ -74,7 +92,7 @@ uint64_t aspda_check_plain(const uint8_t *p, size_t n, const uint8_t *s, size_t 
 #define ASPDA_VERDICT(word) ((uint32_t)((word) >> 32))
 #define ASPDA_VERDICT_VALUE(word) ((uint32_t)(word))
 
-/* Where the record of a rule lies, the rules being numbered from 1: start * 2^32 + length. */
+/* Where the record of a written rule lies, the rules being numbered from 1: start * 2^32 + length. */
 uint64_t aspda_show_source(const uint8_t *p, size_t n, uint32_t rule);
 uint64_t aspda_show_plain(const uint8_t *p, size_t n, uint32_t rule);
 

@@ -1,17 +1,18 @@
 #!/usr/bin/env bash
-# The built command, end to end: every command with text and with bytes, M3 whole, each refusal, help, exit statuses.
+# The built command, end to end: every command with text and with bytes, M3 whole, preference sheets, each refusal, help, exit
+# statuses.
 # The binary is $ASPDA, else target/rust/release/aspda (tests/wrappers.sh builds it).
 set -euo pipefail
 root=$(cd "$(dirname "${BASH_SOURCE[0]}")/.." && pwd)
 aspda=$(readlink -f "${ASPDA:-$root/target/rust/release/aspda}")
 work=$(mktemp -d)
 trap 'rm -rf "$work"' EXIT
-cp "$root"/examples/m[13].* "$work"
+cp "$root"/examples/m[13].* "$root"/examples/m3_sheets.* "$work"
 cd "$work"
 
 # The forms' figures that are tried here: literals of a part of a source's rule, naf literals of a plain one, rules and bytes of
-# each form's longest program, the last atom and tag, literals of a set that is checked.
-most_literals=16 most_nafs=17 rules=256 bytes=63236 plain_rules=12800 plain_bytes=317444 last_atom=500 last_tag=200 checked=64
+# each form's longest program, the last atom and tag, literals of a set that is checked, records of sheets of each kind.
+most_literals=16 most_nafs=17 rules=256 bytes=64388 plain_rules=20992 plain_bytes=456708 last_atom=500 last_tag=200 checked=64 sheets=64
 
 runs=0
 declare -A reached=()
@@ -174,10 +175,94 @@ gives "" translate kit.txt -o kit.plain
 gives "" convert --plain kit-plain.txt -o again.plain
 same again.plain kit.plain
 
-# The longest source and its translation, listed and read again.
-rule="tag 7: $(seq -s ' or ' $most_literals) if $(seq -s ' and ' $most_literals) and not $(seq -s ' and not ' $most_literals)."
-for ((i = 0; i < rules; i++)); do echo "$rule"; done >longest.txt
+# Preference sheets: M3 with them is M3, and what is appended is shown with the records that made it.
+gives "" convert m3_sheets.txt -o made.aspda
+same made.aspda m3_sheets.aspda
+gives "" convert m3_sheets.aspda -o made.txt
+[ "$(cat made.txt)" = "tag 1: 1 or 2 or 3.  % rule 1
+tag 2: 4 or 5.  % rule 2
+tag 1 overrides tag 2.
+1 and 4 oppose.
+1 and 5 oppose.
+2 and 5 oppose." ] || fail "made.txt: $(cat made.txt)"
+gives "" convert made.txt -o again.aspda
+same again.aspda m3_sheets.aspda
+gives "2 rules, 85 bytes" read m3_sheets.txt
+gives "tag 2: 4 or 5.  % rule 2, 17 bytes from byte 22" show m3_sheets.aspda 2
+expansion=$(sed -n 's/^%     \(.*% rule .*\)/\1/p' m3_sheets.txt)
+gives "$expansion" expand m3_sheets.txt
+gives "defeated(2, 4) if 1.  % rule 3: tag 1 overrides tag 2 (byte 39); 1 and 4 oppose (byte 45)
+defeated(2, 5) if 1.  % rule 4: tag 1 overrides tag 2 (byte 39); 1 and 5 oppose (byte 57)
+defeated(2, 5) if 2.  % rule 5: tag 1 overrides tag 2 (byte 39); 2 and 5 oppose (byte 69)" expand m3_sheets.aspda
+for source in m3_sheets.txt m3_sheets.aspda; do
+    gives "" translate $source -o made.plain
+    same made.plain m3.plain
+    for i in 0 1 2 3; do
+        gives "yes: the set is an answer set" check $source "${sets[i]}"
+        gives "${sets[i + 4]}" extend $source "${sets[i]}"
+    done
+    for set in '{}' '{defeated(2, 4)}' '{1, 2, defeated(2, 4), defeated(2, 5)}'; do
+        gives "$("$aspda" quotient m3.txt "$set")" quotient $source "$set"
+    done
+    for set in '{1, 4}' '{2, 5}' '{3, 4, 5}' '{1, -1}' '{4}'; do
+        status=0
+        "$aspda" check m3.txt "$set" >wanted || status=$?
+        run $status check $source "$set"
+        [ "$(sed 's/  % rule.*//' .out)" = "$(cat wanted)" ] || fail "check $source $set: $(cat wanted) expected"
+    done
+done
+prints 1 "broken: what the quotient keeps of rule 3 does not hold in the set"$'\n'"${expansion%%$'\n'*}" check m3_sheets.txt '{1, 4}'
+gives "" expand m3_sheets.txt -o appended.plain
+gives "3 rules, 55 bytes" read --plain appended.plain
+gives "" expand m3_sheets.txt -o appended.txt
+gives "" convert appended.txt -o again.plain
+same again.plain appended.plain
+run 0 expand - -o - <m3_sheets.aspda
+same .out appended.plain
+gives "% no rule is appended" expand m3.txt
+cat >kit.txt <<'KIT'
+tag 3 = drive_x. tag 4 = brake_x.
+1 and -brake oppose. % behind its use no name is known
+KIT
+complains 'kit.txt: line 2, column 8: no atom is declared as `brake`' read kit.txt
+cat >kit.txt <<'KIT'
+tag 3 = drive_x. tag 4 = brake_x.
+atom 12 = servo_x. atom 13 = stepper_x. atom 20 = brake. atom 21 = oppose.
+tag drive_x overrides tag brake_x. tag 5 overrides tag drive_x.
+servo_x
+    and -brake oppose. -brake and servo_x oppose.
+tag brake_x: -brake or oppose or servo_x. oppose and 30 oppose.
+tag drive_x: servo_x or stepper_x or -brake.
+KIT
+gives "atom 12 = servo_x.
+atom 13 = stepper_x.
+atom 20 = brake.
+atom 21 = oppose.
+tag 3 = drive_x.
+tag 4 = brake_x.
+
+defeated(brake_x, -brake) if servo_x.  % rule 3: tag drive_x overrides tag brake_x (line 3); servo_x and -brake oppose (line 4)
+defeated(brake_x, servo_x) if -brake.  % rule 4: tag drive_x overrides tag brake_x (line 3); servo_x and -brake oppose (line 4)" \
+    expand kit.txt
+gives "" convert kit.txt -o kit.aspda
+gives "" convert kit.aspda -o listed.txt
+[ "$(grep -v '^tag .:' listed.txt)" = "tag 3 overrides tag 4.
+tag 5 overrides tag 3.
+12 and -20 oppose.
+-20 and 12 oppose.
+21 and 30 oppose." ] || fail "listed.txt: $(cat listed.txt)"
+
+# The longest source and its translation, listed and read again: two rules are appended for each two records of its sheets.
+body="if $(seq -s ' and ' $most_literals) and not $(seq -s ' and not ' $most_literals)."
+for ((i = 0; i < rules; i++)); do echo "tag $((1 + i % (sheets + 1))): $(seq -s ' or ' $most_literals) $body"; done >longest.txt
+for ((i = 0; i < sheets; i++)); do echo "tag 1 overrides tag $((i + 2))."; done >>longest.txt
+for ((i = 1; i <= most_literals; i++)); do
+    for ((j = 1; j < i; j++)); do echo "$i and $j oppose."; done
+done | sed "${sheets}q" >>longest.txt
 gives "$rules rules, $bytes bytes" read longest.txt
+run 0 expand longest.txt
+[ "$(wc -l <.out)" = $((2 * sheets * sheets)) ] || fail "longest.txt expands to $(wc -l <.out) rules"
+[ "$(sort -u .out | wc -l)" = $((2 * sheets * sheets)) ] || fail "longest.txt expands to a rule twice"
 gives "" translate longest.txt -o longest.plain
 gives "$plain_rules rules, $plain_bytes bytes" read --plain longest.plain
 gives "" convert --plain longest.plain -o longest-plain.txt
@@ -211,6 +296,22 @@ printf '1.\ntag 1: never if 1.\n' >never.txt
 refuses 7 12 "never.txt (rule 2, line 2)" convert never.txt -o unwritten
 printf 'E:\0\1' >end
 refuses 8 0 end check end '{}'
+printf '1.\n\ntag 7 overrides\n tag 7.\n' >itself.txt
+refuses 14 12 "itself.txt (override, line 3)" read itself.txt
+refuses 14 12 "itself.txt (override, line 3)" translate itself.txt -o unwritten
+echo '1 and 2 oppose. -3 and -3 oppose.' >itself.txt
+refuses 14 12 "itself.txt (opposition, line 1)" check itself.txt '{}'
+printf 'tag 1 overrides tag 2. tag 1 overrides\ntag %s.\n' $((last_tag + 1)) >sheet.txt
+refuses 6 6 "sheet.txt (override, line 1)" show sheet.txt 1
+printf '1.\n1 and defeated(1, 2) oppose.\n' >sheet.txt
+refuses 5 19 "sheet.txt (opposition, line 2)" extend sheet.txt '{}'
+for ((i = 0; i <= sheets; i++)); do echo '1 and 2 oppose.'; done >sheet.txt
+refuses 4 $((12 * sheets)) "sheet.txt (opposition, line $((sheets + 1)))" quotient sheet.txt '{}'
+printf '1.\ntag 1 overrides tag 2.\n' >sheet.txt
+refuses 3 12 "sheet.txt (override, line 2)" read --plain sheet.txt
+refuses 13 0 m3_sheets.txt show m3_sheets.txt 3
+printf 'O:\0\1' >cut.aspda
+refuses 2 0 cut.aspda convert cut.aspda -o unwritten
 printf 'A:\0\1' >cut.set
 refuses 10 0 cut.set restrict cut.set
 refuses 10 0 cut.set convert cut.set -o unwritten
@@ -226,7 +327,7 @@ gives "" convert large.txt -o large.set
 refuses 13 0 m3.txt show m3.txt 6
 refuses 13 0 m3.plain show --plain m3.plain 0
 [ ! -e unwritten ] || fail "a refusal wrote a file"
-for number in {1..8} {10..13}; do
+for number in {1..8} {10..14}; do
     [ "${reached[$number]:-}" ] || fail "refusal $number was not reached"
 done
 
@@ -301,6 +402,29 @@ message "standard input: refused with 3 at byte 0: the mark is none of the form'
 rules and its end alone, a source is translated first"
 complains 'nowhere.plain: No such file or directory (os error 2)' aspif nowhere.plain
 complains 'nowhere/m3: No such file or directory (os error 2)' aspif m3.plain -o nowhere/m3
+complains 'SOURCE expected, 2 given; usage: aspda expand SOURCE [-o FILE]' expand m3.txt 1
+complains '`--plain` has no place here; usage: aspda expand SOURCE [-o FILE]' expand --plain m3.plain
+complains 'nowhere.txt: No such file or directory (os error 2)' expand nowhere.txt
+refused_expansion() { # NUMBER PLACE FILE LIMIT: expand refuses the file, and the message ends in the limit
+    run $failure expand "$3" -o unwritten
+    [[ "$(cat .err)" == "aspda: $3: refused with $1 at byte $2: "[a-z]*"$4" ]] && [ ! -s .out ] ||
+        fail "expand $3: refusal $1 at byte $2 and \"$4\" expected"
+}
+head -c $((bytes + 1)) /dev/zero >long
+refused_expansion 1 0 long "; a source has at most $bytes bytes"
+printf 'Y:' >mark
+refused_expansion 3 0 mark "; a source has rules, preference sheets and its end alone"
+for ((i = 0; i <= sheets; i++)); do echo 'tag 1 overrides tag 2.'; done >sheet.txt
+counts="each with at most $most_literals head, $most_literals positive and $most_literals naf literals"
+refused_expansion 4 $((6 * sheets)) sheet.txt " (override, line $((sheets + 1))); a source has at most $rules rules, $counts, and \
+$sheets overrides and $sheets oppositions"
+echo "1 and -$((last_atom + 1)) oppose." >sheet.txt
+refused_expansion 5 7 sheet.txt " (opposition, line 1); atoms run from 1 to $last_atom, tags from 1 to $last_tag; options are \
+atoms and their negations"
+echo "tag 0 overrides tag 1." >sheet.txt
+refused_expansion 6 0 sheet.txt " (override, line 1); tags run from 1 to $last_tag, and a strict rule has tag 0"
+refused_expansion 14 12 itself.txt " or an option opposes itself (opposition, line 1)"
+[ ! -e unwritten ] || fail "a refusal wrote a file"
 complains 'PROGRAM expected, 0 given; usage: aspda aspif PROGRAM [-o FILE]' aspif
 complains 'PROGRAM expected, 2 given; usage: aspda aspif PROGRAM [-o FILE]' aspif m3.plain m3.plain
 complains '`--plain` has no place here; usage: aspda aspif PROGRAM [-o FILE]' aspif --plain m3.plain
@@ -330,7 +454,7 @@ complains '-o OUT is missing; usage: aspda convert [--plain] IN -o OUT' convert 
 # Help: every command in the list and by itself.
 run 0 --help
 cp .out help
-for command in read show translate quotient extend restrict check convert aspif; do
+for command in read show translate quotient extend restrict check convert aspif expand; do
     run 0 $command --help
     usage=$(head -n 1 .out)
     [[ $usage == "aspda $command "* ]] && grep -qF "$usage " help || fail "aspda $command --help"

@@ -1,6 +1,7 @@
 /* The library links from C by its header, and answers as document 01 says: M1's source has one rule, whose record is
  * the first 12 bytes, and translates into 94 bytes and 5 rules; an empty slice is refusal 2 at place 0. Document 02's
- * plain program with the fact 1 is a text of four lines. */
+ * plain program with the fact 1 is a text of four lines; its Example 1 with preference sheets has two rules and translates
+ * as M3 does. */
 #include "../include/aspda.h"
 
 #include <stdio.h>
@@ -51,6 +52,18 @@ int main(void)
     if (aspda_aspif(fact, sizeof fact, lines, 35) != 35) return 17;
     refused = aspda_aspif(fact, sizeof fact, lines, 34);
     if (ASPDA_REFUSAL_NUMBER(refused) != 9 || ASPDA_REFUSAL_PLACE(refused) != 0) return 18;
+    /* Document 02, ask 2: tag 1 overrides tag 2; 1 and 4, 1 and 5, 2 and 5 oppose. */
+    const uint8_t sheets[] = {0x44, 0x3A, 0, 1, 3, 0, 0, 0, 0, 0, 0, 1, 0, 0, 0, 0, 2, 0, 0, 0, 0, 3,
+                              0x44, 0x3A, 0, 2, 2, 0, 0, 0, 0, 0, 0, 4, 0, 0, 0, 0, 5, 0x4F, 0x3A, 0, 1, 0, 2,
+                              0x58, 0x3A, 0, 0, 0, 0, 1, 0, 0, 0, 0, 4, 0x58, 0x3A, 0, 0, 0, 0, 1, 0, 0, 0, 0, 5,
+                              0x58, 0x3A, 0, 0, 0, 0, 2, 0, 0, 0, 0, 5, 0x45, 0x3A, 0, 2};
+    static uint8_t translation[ASPDA_TRANSLATION_BOUND(sizeof sheets)];
+    if (aspda_read_source(sheets, sizeof sheets) != 2) return 19;
+    if (aspda_translate(sheets, sizeof sheets, translation, sizeof translation) != 433) return 20;
+    if (aspda_read_plain(translation, 433) != 22) return 21;
+    const uint8_t itself[] = {0x4F, 0x3A, 0, 7, 0, 7, 0x45, 0x3A, 0, 0};
+    refused = aspda_read_source(itself, sizeof itself);
+    if (ASPDA_REFUSAL_NUMBER(refused) != 14 || ASPDA_REFUSAL_PLACE(refused) != 0) return 22;
     puts("link.c: linked and answered");
     return 0;
 }

@@ -70,7 +70,7 @@ int main(int count, char **arguments)
     struct bytes source = read_file(arguments[1]);
     /* Read first: a file of any length is refused before room is made for its translation. */
     accepted(aspda_read_source(source.start, source.length), arguments[1]);
-    struct bytes result = make_room(13 * source.length);
+    struct bytes result = make_room(ASPDA_TRANSLATION_BOUND(source.length));
     uint64_t word = aspda_translate(source.start, source.length, result.start, result.length);
     result.length = accepted(word, arguments[1]);
     write_file(arguments[2], result);

@@ -90,10 +90,10 @@ def replacing(name, test, part, index, literal):
 
 
 def mark_faults(form):
-    wrong = {"x": b"X:", "semicolon": b"S;", "small": b"s:", "zero": b"\0\0", "set": b"A:",
+    wrong = {"y": b"Y:", "semicolon": b"S;", "small": b"s:", "zero": b"\0\0", "set": b"A:",
              "refusal": b"R:", "swapped": b":D"}
     if form is PLAIN:
-        wrong["defeasible"] = b"D:"
+        wrong |= {"defeasible": b"D:", "override": b"O:", "opposition": b"X:"}
     return [setting(f"mark-{name}", MARK, "mark", mark) for name, mark in wrong.items()]
 
 

@@ -20,7 +20,7 @@ class Operation(NamedTuple):
         return aspda.CHECKED_LITERALS if self.group == "check" else self.form.set_literals
 
 
-READING = {aspda.SOURCE: (1, 2, 3, 4, 5, 6, 7, 8), aspda.PLAIN: (1, 2, 3, 4, 5, 6, 8)}
+READING = {aspda.SOURCE: (1, 2, 3, 4, 5, 6, 7, 8, 14), aspda.PLAIN: (1, 2, 3, 4, 5, 6, 8)}
 SET_AND_OUTPUT = (9, 10, 11, 12)
 
 

@@ -4,10 +4,10 @@ from functools import lru_cache
 
 import samples
 from aspda import (ATOMS, END_RECORD, LAST_ATOM, LAST_NUMBERED_RULE, LAST_TAG, LITERAL,
-                   NUMBERED_RULES, PLAIN, RULE_HEADER, SOURCE, TAGS, Literal, atom, defeasible,
-                   defeated, derived, encoded_program, negated, read, rule_defeated, strict,
-                   translation)
-from cases import faults
+                   NUMBERED_RULES, PLAIN, RULE_HEADER, SOURCE, TAGS, Literal, Opposition, Override,
+                   Rule, atom, defeasible, defeated, derived, encoded_program, expanded, negated,
+                   read, rule_defeated, strict, translation)
+from cases import faults, sheets
 from cases.faults import ProgramCase, encoded_rules, end_record
 from cases.operations import ACCEPTED
 from cases.slices import NOTHING, whole
@@ -16,8 +16,8 @@ from cases.slices import NOTHING, whole
 HEAVY = 12_000
 
 
-def program(rules):
-    return whole(encoded_program(rules))
+def program(items):
+    return whole(encoded_program(items))
 
 
 def rule_size(literals):
@@ -57,6 +57,13 @@ def mixed_plain():
     ]
 
 
+def mixed_sheets():
+    """Rules and sheets by turns, some of which append a rule."""
+    rules = mixed_source()
+    return [Override(LAST_TAG, 1), rules[0], Opposition(atom(1), negated(7)), *rules[1:3],
+            Override(1, LAST_TAG), Opposition(negated(LAST_ATOM), atom(LAST_ATOM)), *rules[3:]]
+
+
 def wide_rule(form):
     """One rule with every count at its limit and no literal twice."""
     options = [(negated if place % 3 == 0 else atom)(240 + place) for place in range(form.heads)]
@@ -71,7 +78,8 @@ def small_samples(form):
     """Programs that are cut and changed at each byte."""
     if form is SOURCE:
         return {"m1": program(samples.M1), "m3": program(samples.M3),
-                "mixed": program(mixed_source())}
+                "mixed": program(mixed_source()), "m3-sheets": program(samples.M3_SHEETS),
+                "sheets": program(mixed_sheets())}
     return {"m1": program(translation(samples.M1)), "m3": program(translation(samples.M3)),
             "mixed": program(mixed_plain())}
 
@@ -88,14 +96,27 @@ def longest_source_rules():
     return rules
 
 
+def longest_source_items():
+    """The longest rules with as many sheets' records as there are: few of these append rules."""
+    rules = longest_source_rules()
+    most = SOURCE.sheets
+    options = [rule.heads[number % SOURCE.heads] for number, rule in enumerate(rules)]
+    overrides = [Override(rules[number].tag, rules[number + 1].tag) for number in range(most)]
+    oppositions = [Opposition(options[number], options[-1 - number]) for number in range(most)]
+    return overrides[:9] + rules[:-2] + oppositions + overrides[9:] + rules[-2:]
+
+
 def longest_plain_rules():
-    """As long as the longest translation, with a tenth of its rules: every count at its limit, but
-    one naf literal fewer in all but the first rules."""
+    """As long as the longest translation, with few rules: every count at its limit, but one naf
+    literal fewer in all but the first rules."""
     literals = list(samples.all_literals((0, 1, 6)))
     body = PLAIN.heads + PLAIN.positives
     most = body + PLAIN.nafs
-    count = PLAIN.rules // 10
-    full = (PLAIN.length - END_RECORD.size - count * rule_size(most - 1)) // LITERAL.size
+    length = PLAIN.length - END_RECORD.size
+    count = length // rule_size(most - 1)
+    while (length - count * rule_size(most - 1)) % LITERAL.size:
+        count -= 1
+    full = (length - count * rule_size(most - 1)) // LITERAL.size
     rules = []
     for number in range(count):
         picked = [literals[(7 * number + 13 * place) % len(literals)] for place in range(most)]
@@ -107,9 +128,10 @@ def longest_plain_rules():
 @lru_cache(maxsize=None)
 def longest(form):
     """The programs of exactly the form's largest length."""
+    most = samples.most_appended(SOURCE)
     if form is SOURCE:
-        return {"longest": program(longest_source_rules())}
-    return {"longest-translation": program(translation(longest_source_rules())),
+        return {"longest": program(longest_source_items()), "longest-appended": program(most)}
+    return {"longest-translation": program(translation(expanded(most))),
             "longest-wide": program(longest_plain_rules())}
 
 
@@ -205,7 +227,7 @@ def too_long(form, name, exact):
     assert len(exact) == form.length
     for tail in (b"\0", b"S", b"E:", end_record(0), b"\xff" * 40, encoded_rules(3)):
         yield ProgramCase(f"{name}-{form.length + len(tail)}", exact + whole(tail), (1, 0))
-    for at, new in ((0, b"X:"), (2, b"\xff\xff"), (4, b"\xff\xff\xff"), (7, b"\x09")):
+    for at, new in ((0, b"Y:"), (2, b"\xff\xff"), (4, b"\xff\xff\xff"), (7, b"\x09")):
         yield ProgramCase(f"{name}-{form.length + 1}-wrong-at-{at}",
                           exact.patched(at, new) + whole(b"\0"), (1, 0))
     for rest in (0, 1, 5, form.length - 1):
@@ -273,7 +295,8 @@ def long_flips(form, rng, count):
 def wrong_counts(form):
     """Each count field of the small samples set to other values."""
     for name, sample in small_samples(form).items():
-        for number, start in enumerate(starts(form, sample.data)[:-1], start=1):
+        rules = [record for record in read(form, sample.data) if isinstance(record.item, Rule)]
+        for number, (start, _, _) in enumerate(rules, start=1):
             for at in (start + 4, start + 5, start + 6):
                 count = sample.data[at]
                 beyond = {PLAIN.heads, PLAIN.nafs, PLAIN.nafs + 1, 255}
@@ -305,8 +328,13 @@ def record_shuffles(form):
 SIZES = (0, 1, 2, 3, 4, 5, 8, 12, 20, 40, 100, SOURCE.rules - 1, SOURCE.rules)
 
 
-def random_rules(form, rng, shape):
-    return (samples.random_source if form is SOURCE else samples.random_plain)(rng, shape)
+def random_items(form, rng, shape):
+    """A random program; of the sources each second one with sheets."""
+    if form is PLAIN:
+        return samples.random_plain(rng, shape)
+    if rng.random() < 0.5:
+        return samples.random_items(rng, shape, rng.choice((1, 3, 8, SOURCE.sheets)))
+    return samples.random_source(rng, shape)
 
 
 def random_shape(form, rng, rules):
@@ -317,12 +345,12 @@ def random_shape(form, rng, rules):
 
 
 def random_programs(form, rng):
-    """Rules of random programs, from tiny to many."""
+    """Random programs, from tiny to many rules."""
     sizes = SIZES if form is SOURCE else SIZES + (1_000,)
     for rules in sizes:
         for run in range(4 if rules <= 20 else 1):
             shape = random_shape(form, rng, rules)
-            yield f"random-{rules}-rules-{run}", random_rules(form, rng, shape)
+            yield f"random-{rules}-rules-{run}", random_items(form, rng, shape)
 
 
 def faulty_program(form, rng, number):
@@ -334,6 +362,8 @@ def faulty_program(form, rng, number):
         return whole(data).cut(rng.randrange(len(data)))
     if number == 8:
         return wrong_end(form, rng)
+    if number == 14 or (form.sheets and number in (4, 5, 6) and rng.random() < 0.5):
+        return with_sheet_fault(form, rng, number)
     mark = b"D:" if number == 7 else rng.choice(faults.marks_of(form))
     wanted = [fault for fault in faults.faults_of(form, mark)
               if faults.NUMBERS[fault.test] == number]
@@ -350,7 +380,7 @@ def longest_of(form):
 
 
 def random_program(form, rng):
-    return encoded_program(random_rules(form, rng, random_shape(form, rng, rng.randint(0, 6))))
+    return encoded_program(random_items(form, rng, random_shape(form, rng, rng.randint(0, 6))))
 
 
 def with_fault(form, rng, mark, fault):
@@ -360,6 +390,15 @@ def with_fault(form, rng, mark, fault):
     rules = int.from_bytes(data[-2:], "big")
     record = faults.spoiled(mark, [fault]).data()
     return whole(data[:start] + record + data[start:-4] + end_record(rules + 1))
+
+
+def with_sheet_fault(form, rng, number):
+    """A random program with a faulty record of a sheet put before one of its records."""
+    if number == 4:
+        return sheets.too_many(rng)
+    data = encoded_program(samples.random_source(rng, random_shape(form, rng, rng.randint(0, 6))))
+    start = rng.choice(starts(form, data))
+    return whole(data[:start] + sheets.faulty_record(rng, number).record() + data[start:])
 
 
 def wrong_end(form, rng):

@@ -3,7 +3,7 @@
 import random
 
 import samples
-from aspda import CHECKED_LITERALS, SOURCE, answer_sets
+from aspda import CHECKED_LITERALS, SOURCE, answer_sets, expanded
 from cases import programs, suites, verdicts
 from cases.literal_sets import literal_set
 from cases.operations import Case
@@ -20,10 +20,11 @@ def random_cases(operations, seed, count):
 
 def valid_case(operation, rng):
     """A random program and a set that touches it, with enough room or too little."""
-    rules = random_rules(operation.form, rng)
+    items = random_items(operation.form, rng)
+    rules = expanded(items)
     case = Case("", operation)
     if operation.takes_program:
-        case = case._replace(program=programs.program(rules))
+        case = case._replace(program=programs.program(items))
     if operation.takes_set:
         case = case._replace(literals=literal_set(random_set(operation, rng, rules)))
     if operation.group == "check" and rng.random() < 0.2:
@@ -33,9 +34,9 @@ def valid_case(operation, rng):
     return with_random_room(case, rng)
 
 
-def random_rules(form, rng):
+def random_items(form, rng):
     most = rng.choices((3, 8, 40, form.rules if form is SOURCE else 600), (40, 40, 10, 1))[0]
-    return programs.random_rules(form, rng, programs.random_shape(form, rng, rng.randint(0, most)))
+    return programs.random_items(form, rng, programs.random_shape(form, rng, rng.randint(0, most)))
 
 
 def random_set(operation, rng, rules):

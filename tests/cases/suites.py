@@ -12,9 +12,10 @@ from itertools import islice, product
 import samples
 from aspda import (ASPIF_BEYOND, ASPIF_TIMES_LONGER, ATOMS, CHECKED_LITERALS, END_RECORD,
                    FILTER_OUTPUT, LAST_ATOM, LAST_NUMBERED_RULE, LAST_TAG, LITERAL, PLAIN,
-                   RULE_HEADER, SOURCE, TIMES_LONGER, Literal, atom, defeasible, defeated, derived,
-                   negated, rule_defeated, strict, translation)
-from cases import faults, literal_sets, programs, verdicts
+                   RULE_HEADER, SOURCE, TIMES_LONGER, Literal, Refusal, answer_sets, atom,
+                   defeasible, defeated, derived, expanded, negated, rule_defeated, strict,
+                   sum_length, translation, written_rules)
+from cases import faults, literal_sets, programs, sheets, verdicts
 from cases.literal_sets import literal_set
 from cases.operations import ACCEPTED, Case, call
 from cases.slices import NOTHING
@@ -39,6 +40,8 @@ def default_cases(operation, seed):
     if operation.takes_program:
         yield from fed_programs(operation, rng)
         yield from valid_programs(operation, rng("valid"))
+    if operation.takes_program and operation.form.sheets:
+        yield from with_sheets(operation, rng("sheets"))
     if operation.takes_set:
         yield from fed_sets(operation, rng("sets"))
         yield from sized_sets(operation)
@@ -57,8 +60,16 @@ def ample(case):
         return case
     if case.operation.group == "aspif":
         return case._replace(room=aspif_bound(case))
-    most = TIMES_LONGER * len(case.program) + len(case.literals) + 8
+    most = TIMES_LONGER * summed(case) + len(case.literals) + 8
     return case._replace(room=min(most, LARGEST_RESULT))
+
+
+def summed(case):
+    """The length of the case's program; of a source with what is appended, if it is not refused."""
+    try:
+        return sum_length(case.program.data) if case.operation.form.sheets else len(case.program)
+    except Refusal:
+        return len(case.program)
 
 
 def aspif_bound(case):
@@ -139,12 +150,14 @@ def light_program_cases(operation, rng):
     for make in small:
         yield from listed(make, form)
     if operation.group == "filter":
-        return      # each of its rows starts a program
+        # Each of its rows starts a program.
+        yield from islice(listed(sheets.record_cases, form), 0, None, 8)
+        return
     for make in (programs.limit_cases, programs.wrong_counts, programs.record_shuffles):
         yield from listed(make, form)
     step = 1 if operation.group == "read" else 4
     for cases in (listed(faults.fault_pairs, form), listed(faults.faults_apart, form),
-                  programs.flips(form, rng("flips"))):
+                  listed(sheets.record_cases, form), programs.flips(form, rng("flips"))):
         yield from islice(cases, operation.number % step, None, step)
     if operation.group == "read":
         yield from programs.all_flips(form)
@@ -170,15 +183,68 @@ def heavy_program_cases(operation, rng):
 
 def valid_programs(operation, rng):
     """Random programs from tiny to many rules, with sets that touch them, in several buffers."""
-    for name, rules in programs.random_programs(operation.form, rng):
-        case = Case(name, operation, programs.program(rules))
+    for name, items in programs.random_programs(operation.form, rng):
+        case = Case(name, operation, programs.program(items))
+        rules = expanded(items)
         if operation.takes_set:
             most = min(operation.set_limit(), 30)
             chosen = samples.random_subset(rng, samples.literals_of(rules), most)
             case = case._replace(literals=literal_set(chosen))
         if operation.group == "show":
-            case = case._replace(rule=rng.randint(1, max(1, len(rules))))
+            case = case._replace(rule=rng.randint(1, max(1, len(written_rules(items)))))
         yield from with_rooms(case)
+
+
+# Brute force tries all sets of so many literals.
+TRIED_LITERALS = 9
+
+
+def with_sheets(operation, rng):
+    """Sources whose sheets append rules, or not: all that an operation tells of them."""
+    for name, (items, appended) in sheets.all_sources().items():
+        rules = expanded(items)
+        assert len(rules) == len(written_rules(items)) + appended, name
+        case = Case(name, operation, programs.program(items))
+        if operation.group == "show":
+            yield from shown_with_sheets(case, len(written_rules(items)), len(rules))
+        elif operation.group == "filter":
+            fits = 4 + sum(map(translated_length, rules)) <= FILTER_OUTPUT
+            yield case._replace(stated=ACCEPTED if fits else (9, 0))
+        elif operation.takes_set:
+            yield from sets_with_sheets(case, rules, rng, name in sheets.small_sources())
+        else:
+            yield from with_rooms(case)
+
+
+def translated_length(rule):
+    """By the document's sum."""
+    heads, bodies = len(rule.heads), len(rule.positives) + len(rule.nafs)
+    return 66 * heads + 5 * bodies + 24 if rule.is_defeasible() else 7 + 5 * (heads + bodies)
+
+
+def shown_with_sheets(case, written, all_rules):
+    """The written rules alone are shown, wherever the sheets stand."""
+    for number in {0, 1, 2, written - 1, written, written + 1, all_rules, all_rules + 1}:
+        if number >= 0:
+            yield case._replace(name=f"{case.name}-rule-{number}", rule=number,
+                                stated=ACCEPTED if 1 <= number <= written else (13, 0))
+
+
+def sets_with_sheets(case, rules, rng, is_small):
+    """The empty set, sets that touch the rules, of small programs all answer sets."""
+    literals = samples.literals_of(rules)
+    most = min(case.operation.set_limit(), 30)
+    runs = {"empty": set()} | {f"touching-{run}": samples.random_subset(rng, literals, most)
+                               for run in range(8 if is_small else 2)}
+    marks = {rule.heads[0] for rule in rules[-20:] if rule.heads}
+    runs["defeated"] = set(sorted(marks)[:most])
+    for name, chosen in runs.items():
+        touched = case._replace(name=f"{case.name}-{name}", literals=literal_set(chosen))
+        yield from with_rooms(touched) if name == "empty" else [ample(touched)]
+    if case.operation.group == "check" and len(literals) <= TRIED_LITERALS:
+        for number, found in enumerate(answer_sets(rules, literals)):
+            yield ample(case._replace(name=f"{case.name}-answer-set-{number}", stated="yes",
+                                      literals=literal_set(found)))
 
 
 @lru_cache(maxsize=None)
@@ -220,7 +286,7 @@ def set_of(operation, size):
 # The order of refusals
 
 
-PROGRAM_REFUSALS = range(1, 9)
+PROGRAM_REFUSALS = (*range(1, 9), 14)
 
 
 def order_of_refusals(operation, rng):
@@ -305,7 +371,8 @@ def translations(operation, rng):
              "repeated-head": [defeasible(9, [atom(3), atom(3), negated(3)], [atom(3)], [atom(3)])],
              f"rule-{SOURCE.rules}": [strict()] * (SOURCE.rules - 1) + [defeasible(1, [atom(1)])],
              "widest-rule": programs.longest_source_rules()[:1],
-             "longest": programs.longest_source_rules()}
+             "longest-rules": programs.longest_source_rules(),
+             "longest": programs.longest_source_items()}
     for name, rules in stock.items():
         yield from with_rooms(Case(name, operation, programs.program(rules)))
 
@@ -411,6 +478,7 @@ def filtered(operation, rng):
         yield Case(f"widest-rules-{count}", operation, programs.program(wide[:count]),
                    stated=ACCEPTED if count <= WIDEST_THAT_FIT else (9, 0))
     yield from near_filter_output(operation)
+    yield from near_filter_output_with_sheets(operation)
     longest = programs.longest_of(SOURCE)
     yield Case("far-too-long", operation, longest + longest + longest, stated=(1, 0))
 
@@ -422,6 +490,18 @@ def near_filter_output(operation):
         rules = strict_rules_of_length(length - WIDEST * WIDEST_THAT_FIT - END_RECORD.size)
         yield Case(f"translation-of-{length}", operation, programs.program(wide + rules),
                    stated=ACCEPTED if length <= FILTER_OUTPUT else (9, 0))
+
+
+def near_filter_output_with_sheets(operation):
+    """Translations that just fit or do not, most of them what sheets append."""
+    items, _ = sheets.large_sources()["most-appended-small-rules"]
+    rules = written_rules(items)
+    kept = rules[:20] + items[len(rules):]
+    length = END_RECORD.size + sum(map(translated_length, expanded(kept)))
+    for wanted in range(FILTER_OUTPUT - 2, FILTER_OUTPUT + 3):
+        more = strict_rules_of_length(wanted - length)
+        yield Case(f"sheets-translation-of-{wanted}", operation, programs.program(more + kept),
+                   stated=ACCEPTED if wanted <= FILTER_OUTPUT else (9, 0))
 
 
 def strict_rules_of_length(length):

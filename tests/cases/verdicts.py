@@ -123,8 +123,9 @@ def many_rules(rng):
     most, size = PLAIN.rules, CHECKED_LITERALS
     literals = stock(PLAIN, size)
     facts = [strict([rng.choice(literals), rng.choice(literals)]) for _ in range(200)]
-    links = [strict([rng.choice(literals)], rng.sample(literals, 2))
-             for _ in range(most - 1 - len(facts))]
+    # Not all of them with two positive literals: so many bytes a program of so many rules has not.
+    links = [strict([rng.choice(literals)], rng.sample(literals, 2 if number % 4 else 1))
+             for number in range(most - 1 - len(facts))]
     yield Proposal(f"rules-{most}-over-{size}", facts + links + [strict()], set(literals), "broken")
     yield Proposal(f"rules-{most - 1}-over-{size}", facts + links, set(literals))
     weak = [strict([literal], [literal]) for literal in literals] * (most // size)

@@ -8,6 +8,8 @@ says yes to each, restricts it, says yes to the restriction on the source, and e
 solver gave. The restrictions are the sets of NAME.answers, which come from a search on the source
 that knows no translation. The pipe of README.md, from the text to clasp in one line, shows the same
 atoms. Sets near an answer set, and some far from one, get the verdict that the reference gives.
+A kit NAME_sheets has the answer sets of NAME, whose defeat rules are written by hand; what the command
+shows of its expansion are these rules.
 
 Beside it the old product: how many rules its translation has, a plain rule for each non-empty
 subset of a rule's options; whether it gives up; and, where it does not, how many answer sets it
@@ -34,12 +36,16 @@ sys.path[:0] = [str(TESTS / "reference"), str(TESTS / "solver")]
 import answers                                                                  # noqa: E402
 import solve                                                                    # noqa: E402
 import traps                                                                    # noqa: E402
-from aspda import (CHECKED_LITERALS, PLAIN, SOURCE, YES, aspif_name, aspif_text,     # noqa: E402
-                   encoded_program, extension, numbering, opposite, read_rules, read_set,
-                   translation, verdict)
+from aspda import (CHECKED_LITERALS, PLAIN, SOURCE, YES, Rule, appended_rules,  # noqa: E402
+                   aspif_name, aspif_text, encoded_item, encoded_program, extension, numbering,
+                   opposite, read_rules, read_set, translation, verdict, written_rules)
 from command import Command, CommandError                                       # noqa: E402
 from samples import literals_of                                                 # noqa: E402
-from text_form import Program, TextError, read_program, read_sets, set_text     # noqa: E402
+from text_form import (Names, Program, TextError, read_program, read_sets,      # noqa: E402
+                       read_with_lines, set_text)
+
+SHEETS = "_sheets"          # ends the name of a kit that has preference sheets in place of rules
+LEAST_WITH_SHEETS = 3
 
 COMMAND = "target/rust/release/aspda"
 OPTIONS = range(5, SOURCE.heads + 1)    # of a kit, all its rules together
@@ -98,7 +104,7 @@ class Files(NamedTuple):
 
 def written_files(command, kit):
     source, source_bytes = command.written("source.aspda", "convert", kit.path)
-    expect(source_bytes == encoded_program(kit.program.rules), "the source's bytes")
+    expect(source_bytes == encoded_program(kit.program.items), "the source's bytes")
     plain, plain_bytes = command.written("translation.plain", "translate", source)
     expect(plain_bytes == encoded_program(translation(kit.program.rules)), "the translation")
     return Files(source, plain, source_bytes, plain_bytes)
@@ -107,7 +113,7 @@ def written_files(command, kit):
 def compare_listings(command, kit, files):
     """The command's text, read again: the source without names, the translation with names."""
     path, _ = command.written("source.txt", "convert", files.source)
-    expect(read_program(path.read_text(encoding="ascii")).rules == kit.program.rules,
+    expect(read_program(path.read_text(encoding="ascii")).items == kit.program.items,
            "the source's listing")
     listed = read_program(command.printed("translate", kit.path))
     expect(listed == (translation(kit.program.rules), kit.program.names),
@@ -170,6 +176,66 @@ def compare_in_text(command, kit):
 
 
 # ---------------------------------------------------------------------------------------------
+# Preference sheets
+
+
+RECORD = r"(.+) \((line|byte) (\d+)\)"
+APPENDED_LINE = re.compile(rf"[^%]*% rule (\d+): {RECORD}; {RECORD}")
+
+
+def compare_expansion(command, kit, files):
+    """The appended rules as the command shows them, of the text and of the bytes."""
+    appended = appended_rules(kit.program.items)
+    for source in (kit.path, files.source):
+        listing = command.printed("expand", source)
+        expect(read_program(listing).items == appended, f"the expansion of {source.name}")
+        shown = [line for line in listing.splitlines() if "% rule" in line]
+        expect(len(shown) == len(appended), f"the rules shown of {source.name}")
+        for line, rule in zip(shown, appended):
+            compare_makers(kit, source, line, rule)
+    _, data = command.written("appended.plain", "expand", files.source)
+    expect(data == encoded_program(appended), "the expansion's bytes")
+
+
+def compare_makers(kit, source, line, rule):
+    """A line of the expansion: the rule's number, and the first two records that make it."""
+    found = APPENDED_LINE.fullmatch(line)
+    expect(found is not None, f"no two records are shown: {line}")
+    number, *shown = found.groups()
+    items = kit.program.items
+    rules = written_rules(items)
+    expect(int(number) == 1 + kit.program.rules.index(rule, len(rules)), f"the number in {line}")
+    names = kit.program.names if source == kit.path else Names({}, {})
+    makers = read_with_lines(f"{shown[0]}. {shown[3]}.", names)[0].items
+    expect(rule in appended_rules(rules + makers), f"the records in {line}")
+    for item, unit, place in zip(makers, shown[1::3], shown[2::3]):
+        right = unit, int(place)
+        expect(right == place_of(kit, source, items.index(item)), f"a record's place in {line}")
+
+
+def place_of(kit, source, index):
+    """Where an item begins: its line in the kit's text, in bytes its record's first byte."""
+    if source == kit.path:
+        lines = read_with_lines(kit.path.read_text(encoding="ascii"), Names({}, {}))[1]
+        return "line", lines[index]
+    return "byte", len(b"".join(map(encoded_item, kit.program.items[:index])))
+
+
+def compare_twins(kits):
+    """Each kit with sheets beside the one with hand-written rules: the same sets, the same rules."""
+    by_name = {kit.name: kit for kit in kits}
+    with_sheets = [kit for kit in kits if kit.name.endswith(SHEETS)]
+    expect(len(with_sheets) >= LEAST_WITH_SHEETS, f"fewer than {LEAST_WITH_SHEETS} kits with sheets")
+    for kit in with_sheets:
+        twin = by_name[kit.name[:-len(SHEETS)]]
+        expect(len(appended_rules(kit.program.items)) > 0, f"{kit.name} appends nothing")
+        expect(all(isinstance(item, Rule) for item in twin.program.items), f"{twin.name} has sheets")
+        expect(set(kit.answers) == set(twin.answers), f"{kit.name} and {twin.name}: answer sets")
+        expect(set(kit.program.rules) == set(twin.program.rules), f"{kit.name} and {twin.name}: rules")
+    return len(with_sheets)
+
+
+# ---------------------------------------------------------------------------------------------
 # Sets that are no answer sets
 
 
@@ -227,7 +293,7 @@ def compare_rule_numbers(kit, files):
     """3k + 2 rules for each of the kit's choices, and the figures for sixteen options."""
     ours = len(read_rules(PLAIN, files.plain_bytes))
     choices = kit.choices()
-    strict_rules = len(kit.program.rules) - len(choices)
+    strict_rules = len(kit.program.rules) - len(choices)    # appended ones too
     expect(ours == strict_rules + sum(3 * options + 2 for options in kit.options()),
            "the number of the translation's rules")
     if kit.options() == [WIDEST[0]]:
@@ -241,7 +307,7 @@ def compare_rule_numbers(kit, files):
 # All kits
 
 
-LINE = "{:<10}{:<20}{:>6}{:>13}{:>7}{:>7}{:>11}  {:<33}{:>11}  {}"
+LINE = "{:<16}{:<20}{:>6}{:>13}{:>7}{:>7}{:>11}  {:<33}{:>11}  {}"
 
 
 def options_words(options):
@@ -257,6 +323,7 @@ def run_kit(command, kit, tally):
     compare_with_solver(command, kit, files, found)
     compare_pipe(command, kit)
     compare_in_text(command, kit)
+    compare_expansion(command, kit, files)
     compare_verdicts(command, kit, files, tally)
     ours = compare_rule_numbers(kit, files)
     old_rules, old_words = old_product(kit)
@@ -297,21 +364,24 @@ def main():
         return 2
     try:
         print(f"endtoend: {solve.version()}")
-        m3, *kits = map(read_kit, answers.kit_files())
+        marked, kits = [list(map(read_kit, files)) for files in (answers.marked_files(),
+                                                                 answers.kit_files())]
         expect(len(kits) >= answers.LEAST_KITS and all(sum(kit.options()) in OPTIONS for kit in kits)
                and any(kit.options() == [WIDEST[0]] for kit in kits),
                f"not {answers.LEAST_KITS} kits of {OPTIONS[0]} to {OPTIONS[-1]} options, one of them "
                f"with {WIDEST[0]} in one rule")
         with tempfile.TemporaryDirectory() as folder:
-            failed = run_all(Command(program, folder), [m3, *kits])
+            failed = run_all(Command(program, folder), marked + kits)
         compare_readme(kits)
+        twins = compare_twins(marked + kits)
     except solve.SolverError as error:
         print(f"endtoend: {error}", file=sys.stderr)
         return 2
     except (Difference, OSError, TextError) as error:
         print(f"endtoend: {error}", file=sys.stderr)
         return 1
-    print(f"endtoend: {len(kits) + 1} programs, {failed} failed")
+    print(f"endtoend: {len(marked + kits)} programs, {twins} of them with sheets beside the same with "
+          f"rules, {failed} failed")
     return 1 if failed else 0
 
 

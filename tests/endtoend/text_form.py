@@ -6,14 +6,16 @@
     tag drive: servo_x or -4 if 5 and not 6. a defeasible rule
     1 or defeated(drive, servo_x) if -6.     a strict rule
     never if 1 and 2.                        a strict rule without head
+    tag drive overrides tag 4.               of a preference sheet: one tag before another,
+    servo_x and -4 oppose.                   two options that speak against each other
     {servo_x, -2, defeated(drive, 4)}        a set
 """
 
 import re
 from typing import NamedTuple
 
-from aspda import (KIND_DERIVED, KIND_RULE_DEFEATED, Rule, atom, defeated, derived, negated,
-                   opposite, rule_defeated)
+from aspda import (KIND_DERIVED, KIND_RULE_DEFEATED, Opposition, Override, Rule, atom, defeated,
+                   derived, expanded, negated, opposite, rule_defeated)
 
 TOKEN = re.compile(r"(?P<skip>\s+|%[^\n]*)|(?P<word>rule-defeated|[a-z][a-z0-9_]*)"
                    r"|(?P<number>[0-9]+)|(?P<mark>[-:.,(){}=])")
@@ -33,8 +35,15 @@ class Names(NamedTuple):
 
 
 class Program(NamedTuple):
-    rules: list
+    """Rules and records of sheets, in order; the numbers of the names."""
+
+    items: list
     names: Names
+
+    @property
+    def rules(self):
+        """The program that is meant."""
+        return expanded(self.items)
 
 
 class Token(NamedTuple):
@@ -154,8 +163,13 @@ class Parser:
             self.take_list(element, "and")
         return tuple(parts[False]), tuple(parts[True])
 
-    def take_rule(self, tag):
-        heads = [] if self.take_if("never") else self.take_list(self.take_literal, "or")
+    def take_rule(self, tag, first=None):
+        """A rule, of which the first head literal may have been taken."""
+        heads = [] if first is None else [first]
+        if first is None and not self.take_if("never"):
+            heads = [self.take_literal()]
+        while heads and self.take_if("or"):
+            heads.append(self.take_literal())
         positives, nafs = self.take_body()
         self.take(".")
         return Rule(tag, tuple(heads), positives, nafs)
@@ -168,26 +182,54 @@ class Parser:
         numbers[name] = number
         self.take(".")
 
-    def take_statement(self, rules):
+    def take_lower(self, upper):
+        """The rest of an override."""
+        self.take("tag")
+        lower = self.take_named(self.names.tags)
+        self.take(".")
+        return Override(upper, lower)
+
+    def take_untagged(self):
+        """A strict rule, or an opposition: behind its first literal stands 'and'."""
+        if self.next_is("never"):
+            return self.take_rule(0)
+        first = self.take_literal()
+        if not self.take_if("and"):
+            return self.take_rule(0, first)
+        second = self.take_literal()
+        self.take("oppose")
+        self.take(".")
+        return Opposition(first, second)
+
+    def take_statement(self, items):
         if self.take_if("atom"):
             self.declare(self.names.atoms, self.take_number())
         elif self.take_if("tag"):
             number = self.take_named(self.names.tags)
             if self.next_is("="):
                 self.declare(self.names.tags, number)
+            elif self.take_if("overrides"):
+                items.append(self.take_lower(number))
             else:
                 self.take(":")
-                rules.append(self.take_rule(number))
+                items.append(self.take_rule(number))
         else:
-            rules.append(self.take_rule(0))
+            items.append(self.take_untagged())
+
+
+def read_with_lines(text, names):
+    """The program of a text that may use names, and the line where each of its items begins."""
+    parser = Parser(text, names)
+    items, lines = [], []
+    while not parser.at_end():
+        line = parser.tokens[parser.at].line
+        parser.take_statement(items)
+        lines += [line] * (len(items) - len(lines))
+    return Program(items, parser.names), lines
 
 
 def read_program(text):
-    parser = Parser(text, Names({}, {}))
-    rules = []
-    while not parser.at_end():
-        parser.take_statement(rules)
-    return Program(rules, parser.names)
+    return read_with_lines(text, Names({}, {}))[0]
 
 
 def read_sets(text, names):

@@ -1,18 +1,20 @@
 """The reference: every operation on defeasible answer-set programs, in plain Python.
 
 Written from document 01 ("Kit programs with defaults and their plain translation"), for the export
-to aspif from document 02's ask 1, and from nothing else, so that a mistake in the library's own
-definitions shows as a difference. It is plain before it is fast: each definition follows the
-document's sentence.
+to aspif and for preference sheets from document 02's asks 1 and 2, and from nothing else, so that a
+mistake in the library's own definitions shows as a difference. It is plain before it is fast: each
+definition follows the document's sentence.
 
-In order: limits; refusals; literals and rules; bytes to programs and sets; programs and sets to
-bytes; meaning (quotient, model, answer set); translation, extension, restriction; the text in aspif;
-the first smaller model; the operations as words; the filter.
+In order: limits; refusals; literals, rules and preference sheets; bytes to programs and sets;
+programs and sets to bytes; the expanded program; meaning (quotient, model, answer set);
+translation, extension, restriction; the text in aspif; the first smaller model; the operations as
+words; the filter.
 
 Run as a program it is the filter: python3 aspda.py < source > plain
 """
 
 import sys
+from collections import Counter
 from functools import lru_cache, wraps
 from itertools import compress, product, starmap
 from struct import Struct
@@ -31,17 +33,19 @@ class Form(NamedTuple):
     heads: int
     positives: int
     nafs: int
-    marks: tuple
+    marks: tuple        # those of rules and of the end
     kinds: range
     set_literals: int
+    sheets: int         # O: records, and X: records; a form that takes none has no such marks
 
 
 STRICT, DEFEASIBLE, END, SET, REFUSAL = b"S:", b"D:", b"E:", b"A:", b"R:"
+OVERRIDE, OPPOSITION = b"O:", b"X:"
 
-SOURCE = Form(length=63_236, rules=256, heads=16, positives=16, nafs=16,
-              marks=(STRICT, DEFEASIBLE, END), kinds=range(0, 4), set_literals=1_000)
-PLAIN = Form(length=317_444, rules=12_800, heads=16, positives=16, nafs=17,
-             marks=(STRICT, END), kinds=range(0, 7), set_literals=5_352)
+SOURCE = Form(length=64_388, rules=256, heads=16, positives=16, nafs=16,
+              marks=(STRICT, DEFEASIBLE, END), kinds=range(0, 4), set_literals=1_000, sheets=64)
+PLAIN = Form(length=456_708, rules=20_992, heads=16, positives=16, nafs=17,
+             marks=(STRICT, END), kinds=range(0, 7), set_literals=5_352, sheets=0)
 
 LAST_ATOM, LAST_TAG, LAST_NUMBERED_RULE = 500, 200, 256
 ATOMS = range(1, LAST_ATOM + 1)
@@ -49,11 +53,14 @@ TAGS = range(1, LAST_TAG + 1)
 NUMBERED_RULES = range(1, LAST_NUMBERED_RULE + 1)
 CHECKED_LITERALS = 64
 FILTER_OUTPUT = 65_536
-TIMES_LONGER = 13       # a translation has at most so many times its source's bytes
+TIMES_LONGER = 13       # a translation has at most so many times its source's bytes,
+APPENDED_RULE = 17      # to which each appended rule adds so many
 # A text in aspif has at most so many times its program's bytes, and so many bytes more.
 ASPIF_TIMES_LONGER, ASPIF_BEYOND = 2, 29_012
 
 RULE_HEADER = Struct(">2sHBBB")     # mark, tag, head count, positive count, naf count
+OVERRIDE_RECORD = Struct(">2sHH")   # mark, upper tag, lower tag
+OPPOSITION_RECORD = Struct(">2s5s5s")   # mark, two literals
 END_RECORD = Struct(">2sH")         # mark, number of rules
 SET_HEADER = Struct(">2sH")         # mark, number of literals
 REFUSAL_RECORD = Struct(">2sBI")    # mark, number, place
@@ -69,7 +76,7 @@ BRUTE_FORCE_LITERALS = 16
 TOO_LONG = 1
 CUT = 2
 WRONG_MARK = 3
-TOO_MANY = 4            # one rule too many, or a count over its limit
+TOO_MANY = 4            # one rule or record of a sheet too many, or a count over its limit
 WRONG_LITERAL = 5
 WRONG_TAG = 6
 WRONG_HEAD = 7          # a defeasible head that is empty or holds a defeat mark
@@ -79,6 +86,7 @@ WRONG_SET = 10          # the set's mark, or its length not as counted
 WRONG_SET_LITERAL = 11
 SET_TOO_LARGE = 12
 NO_SUCH_RULE = 13
+EQUAL = 14              # both tags or both literals of a sheet's record
 
 REFUSED = 1 << 63
 
@@ -101,7 +109,7 @@ def refuse_if(wrong, number, place):
 
 
 # ---------------------------------------------------------------------------------------------
-# Literals and rules
+# Literals, rules and preference sheets
 
 
 class Literal(NamedTuple):
@@ -128,6 +136,20 @@ class Rule(NamedTuple):
 
     def is_defeasible(self):
         return self.tag != 0
+
+
+class Override(NamedTuple):
+    """One tag overrides another."""
+
+    upper: int
+    lower: int
+
+
+class Opposition(NamedTuple):
+    """Two options, atoms or negated atoms, oppose each other."""
+
+    first: Literal
+    second: Literal
 
 
 def atom(number):
@@ -185,11 +207,11 @@ def opposite(literal):
 
 
 class Record(NamedTuple):
-    """A rule with the offsets of its record."""
+    """An item of a program, a rule or a sheet's, with the offsets of its record."""
 
     start: int
     end: int
-    rule: Rule
+    item: object    # a Rule, an Override or an Opposition
 
 
 def literals_at(data, first, end):
@@ -199,24 +221,62 @@ def literals_at(data, first, end):
 
 @lru_cache(maxsize=16)  # only for speed: one large program is often given to many calls
 def read(form, data):
-    """The rule records of an accepted program, in order."""
+    """The records of an accepted program before its end record, in order."""
     refuse_if(len(data) > form.length, TOO_LONG, 0)
     records = []
+    held = Counter()    # by the item's type
     at = 0
     while True:
         mark = read_mark(form, data, at)
         if mark == END:
-            read_end(data, at, len(records))
+            read_end(data, at, held[Rule])
             return tuple(records)
-        records.append(read_rule(form, data, at, len(records)))
+        records.append(read_record(form, mark, data, at, held))
+        held[type(records[-1].item)] += 1
         at = records[-1].end
 
 
 def read_mark(form, data, at):
     refuse_if(len(data) - at < 2, CUT, at)
     mark = data[at:at + 2]
-    refuse_if(mark not in form.marks, WRONG_MARK, at)
+    of_sheets = (OVERRIDE, OPPOSITION) if form.sheets > 0 else ()
+    refuse_if(mark not in form.marks and mark not in of_sheets, WRONG_MARK, at)
     return mark
+
+
+def read_record(form, mark, data, at, held):
+    if mark == OVERRIDE:
+        return read_override(form, data, at, held[Override])
+    if mark == OPPOSITION:
+        return read_opposition(form, data, at, held[Opposition])
+    return read_rule(form, data, at, held[Rule])
+
+
+def read_override(form, data, at, held):
+    """One O: record at an offset, the tests in document 02's order."""
+    refuse_if(held == form.sheets, TOO_MANY, at)
+    refuse_if(len(data) - at < OVERRIDE_RECORD.size, CUT, at)
+    _, upper, lower = OVERRIDE_RECORD.unpack_from(data, at)
+    refuse_if(upper not in TAGS or lower not in TAGS, WRONG_TAG, at)
+    refuse_if(upper == lower, EQUAL, at)
+    return Record(at, at + OVERRIDE_RECORD.size, Override(upper, lower))
+
+
+def read_opposition(form, data, at, held):
+    """One X: record at an offset, the tests in document 02's order."""
+    refuse_if(held == form.sheets, TOO_MANY, at)
+    end = at + OPPOSITION_RECORD.size
+    refuse_if(len(data) < end, CUT, at)
+    literals = literals_at(data, at + 2, end)
+    for number, literal in enumerate(literals):
+        refuse_if(not is_option(form, literal), WRONG_LITERAL, at + 2 + LITERAL.size * number)
+    first, second = literals
+    refuse_if(first == second, EQUAL, at)
+    return Record(at, end, Opposition(first, second))
+
+
+def is_option(form, literal):
+    return literal.kind in (KIND_ATOM, KIND_NEGATED) and is_of_form(form, literal)
 
 
 def read_end(data, at, held):
@@ -258,9 +318,14 @@ def is_defeasible_head(heads):
     return len(heads) > 0 and all(head.kind in (KIND_ATOM, KIND_NEGATED) for head in heads)
 
 
+def read_items(form, data):
+    """What is written in the bytes: rules, overrides and oppositions."""
+    return [record.item for record in read(form, data)]
+
+
 def read_rules(form, data):
     """The program that the bytes stand for: its rules, numbered from 1 by their position."""
-    return [record.rule for record in read(form, data)]
+    return expanded(read_items(form, data))
 
 
 def read_set(form, data, most):
@@ -293,8 +358,18 @@ def encoded_rule(rule):
     return header + encoded_literals(rule.heads + rule.positives + rule.nafs)
 
 
-def encoded_program(rules):
-    return b"".join(map(encoded_rule, rules)) + END_RECORD.pack(END, len(rules))
+def encoded_item(item):
+    if isinstance(item, Override):
+        return OVERRIDE_RECORD.pack(OVERRIDE, *item)
+    if isinstance(item, Opposition):
+        return OPPOSITION + encoded_literals(item)
+    return encoded_rule(item)
+
+
+def encoded_program(items):
+    """Rules and sheets' records as given, and an end record, which counts the rules alone."""
+    records = b"".join(map(encoded_item, items))
+    return records + END_RECORD.pack(END, len(written_rules(items)))
 
 
 def encoded_set(literals):
@@ -303,6 +378,39 @@ def encoded_set(literals):
 
 def encoded_refusal(refusal):
     return REFUSAL_RECORD.pack(REFUSAL, refusal.number, refusal.place)
+
+
+# ---------------------------------------------------------------------------------------------
+# The expanded program
+
+
+def written_rules(items):
+    return [item for item in items if isinstance(item, Rule)]
+
+
+def appended_rules(items):
+    """The strict rules that the sheets of a program ask for, in order, each once."""
+    heads = {(rule.tag, head) for rule in written_rules(items) if rule.is_defeasible()
+             for head in rule.heads}
+    overrides = [item for item in items if isinstance(item, Override)]
+    oppositions = [item for item in items if isinstance(item, Opposition)]
+    appended = {}       # its keys: a rule that is there already keeps its place
+    for upper, lower in overrides:
+        for first, second in oppositions:
+            for a, b in ((first, second), (second, first)):
+                if (upper, a) in heads and (lower, b) in heads:
+                    appended[strict([defeated(lower, b)], [a])] = None
+    return list(appended)
+
+
+def expanded(items):
+    """The program that is meant: the written rules, and behind them the appended ones."""
+    return written_rules(items) + appended_rules(items)
+
+
+def sum_length(data):
+    """A source's length for the thirteenfold bound: its bytes, and more for each appended rule."""
+    return len(data) + APPENDED_RULE * len(appended_rules(read_items(SOURCE, data)))
 
 
 # ---------------------------------------------------------------------------------------------
@@ -568,12 +676,17 @@ def result(written, room):
     return len(written), written
 
 
+def rule_records(form, program):
+    """The records of the written rules: these are counted and shown."""
+    return [record for record in read(form, program) if isinstance(record.item, Rule)]
+
+
 def read_program(form, program):
-    return len(read(form, program)), b""
+    return len(rule_records(form, program)), b""
 
 
 def show_rule(form, program, number):
-    records = read(form, program)
+    records = rule_records(form, program)
     refuse_if(not 1 <= number <= len(records), NO_SUCH_RULE, 0)
     record = records[number - 1]
     return (record.start << 32) + record.end - record.start, b""

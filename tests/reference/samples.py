@@ -4,10 +4,12 @@ Random programs draw their literals from few atoms and tags, so that rules and s
 atoms and tags themselves lie anywhere in their ranges.
 """
 
+from itertools import combinations
 from typing import NamedTuple
 
-from aspda import (ATOMS, END_RECORD, LITERAL, NUMBERED_RULES, RULE_HEADER, TAGS, Literal, atom,
-                   defeasible, defeated, derived, negated, rule_defeated, strict)
+from aspda import (ATOMS, END_RECORD, LITERAL, NUMBERED_RULES, RULE_HEADER, TAGS, Literal,
+                   Opposition, Override, atom, defeasible, defeated, derived, negated, opposite,
+                   rule_defeated, strict)
 
 
 # The programs of M1 to M9; the sets are in the self-test.
@@ -19,6 +21,9 @@ M3 = [
     strict([defeated(2, atom(5))], [atom(1)]),
     strict([defeated(2, atom(5))], [atom(2)]),
 ]
+# Document 02, ask 2: the same with preference sheets, from which M3's strict rules are made.
+M3_SHEETS = M3[:2] + [Override(1, 2), Opposition(atom(1), atom(4)), Opposition(atom(1), atom(5)),
+                      Opposition(atom(2), atom(5))]
 M4 = [strict([atom(1)]), defeasible(7, [atom(1)], [atom(2)])]
 M5 = [defeasible(7, [atom(1)]), defeasible(7, [atom(2)]), strict([defeated(7, atom(1))])]
 M6 = [strict([atom(1), atom(2)])]
@@ -96,19 +101,90 @@ def random_defeat_rule(rng, shape, marks, literal):
                   several(rng, 0, min(1, shape.nafs), literal))
 
 
-def random_source(rng, shape):
+def random_source(rng, shape, choices=0.5):
+    """Rules of which about such a share is defeasible."""
     words = random_vocabulary(rng, shape)
 
     def literal():
         return random_source_literal(rng, words)
 
-    rules = [random_defeasible_rule(rng, shape, words, literal) if rng.random() < 0.5
+    rules = [random_defeasible_rule(rng, shape, words, literal) if rng.random() < choices
              else random_strict_rule(rng, shape, literal) for _ in range(shape.rules)]
     marks = sorted(defeat_marks(rules))
     for place, rule in enumerate(rules):
         if not rule.is_defeasible() and marks and rng.random() < 0.5:
             rules[place] = random_defeat_rule(rng, shape, marks, literal)
     return rules
+
+
+def random_override(rng, tags):
+    """Of two tags, mostly the program's."""
+    if len(tags) > 1 and rng.random() < 0.9:
+        return Override(*rng.sample(tags, 2))
+    return Override(*rng.sample(TAGS, 2))
+
+
+def random_opposition(rng, options):
+    """Of two options, mostly the program's; now and then of an atom and its own negation."""
+    if len(options) > 1 and rng.random() < 0.9:
+        one, other = rng.sample(options, 2)
+    else:
+        one, other = map(atom, rng.sample(ATOMS, 2))
+    return Opposition(one, opposite(one) if rng.random() < 0.1 else other)
+
+
+def random_sheets(rng, rules, overrides, oppositions):
+    """So many records of each kind, some of them given before or turned round."""
+    marks = sorted(defeat_marks(rules))
+    tags = sorted({mark.tag for mark in marks})
+    options = sorted({head for rule in rules if rule.is_defeasible() for head in rule.heads})
+    made = []
+    for count, make, stock in ((overrides, random_override, tags),
+                               (oppositions, random_opposition, options)):
+        of_kind = []
+        for _ in range(count):
+            if of_kind and rng.random() < 0.2:
+                again = rng.choice(of_kind)
+                of_kind.append(type(again)(*again[::rng.choice((1, -1))]))
+            else:
+                of_kind.append(make(rng, stock))
+        made += of_kind
+    return rng.sample(made, len(made))
+
+
+def interleaved(rng, rules, sheets):
+    """Rules and sheets' records in one program, each in their order."""
+    items = list(rules)
+    for place in sorted(rng.sample(range(len(rules) + len(sheets)), len(sheets))):
+        items.insert(place, None)
+    rest = iter(sheets)
+    return [next(rest) if item is None else item for item in items]
+
+
+def random_items(rng, shape, most):
+    """A random source whose sheets have up to so many records of each kind."""
+    rules = random_source(rng, shape, choices=0.8)
+    return interleaved(rng, rules, random_sheets(rng, rules, rng.randint(0, most),
+                                                 rng.randint(0, most)))
+
+
+def most_appended(form):
+    """A source at its limit in every figure, and of all such one with the most appended rules: its
+    first tag overrides each of the others, and each rule has each option that opposes another.
+    """
+    options = [(negated if place % 3 == 0 else atom)(ATOMS[-1 - 7 * place])
+               for place in range(form.heads)]
+    tags = TAGS[:form.sheets + 1]
+    rules = []
+    for number in range(form.rules):
+        tag, turn = tags[number % len(tags)], number % form.heads
+        bodies = [defeated(1 + place, atom(1 + number)) for place in range(form.positives)]
+        nafs = [negated(1 + number % 200 + place) for place in range(form.nafs)]
+        rules.append(defeasible(tag, options[turn:] + options[:turn], bodies, nafs))
+    overrides = [Override(tags[0], tag) for tag in tags[1:]]
+    oppositions = [Opposition(*pair) for pair in combinations(options, 2)][:form.sheets]
+    half = form.sheets // 2
+    return overrides[:half] + rules[:100] + oppositions + rules[100:] + overrides[half:]
 
 
 def defeat_marks(rules):

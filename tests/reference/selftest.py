@@ -12,21 +12,24 @@ import sys
 sys.dont_write_bytecode = True
 
 import samples
-from aspda import (ASPIF_BEYOND, ASPIF_TIMES_LONGER, ATOMS, BROKEN, BRUTE_FORCE_LITERALS,
-                   CHECKED_LITERALS, CLASH, LAST_ATOM, LAST_NUMBERED_RULE, LAST_TAG, PLAIN, REFUSED,
-                   SMALLER, SOURCE, TIMES_LONGER, YES, Remainder, answer_sets, aspif, aspif_text,
-                   atom, check_plain, check_source, defeasible, defeated, derived,
-                   encoded_literals, encoded_program, encoded_set, extend, extension, filter,
-                   first_smaller_by_brute_force, first_smaller_by_search, is_answer_set,
-                   is_interpretation, is_model, negated, numbering, proper_subsets, quotient,
-                   quotient_plain, quotient_source, read_plain, read_rules, read_source, restrict,
-                   restriction, rule_defeated, show_plain, show_source, strict, subsets, translate,
-                   translation)
+from aspda import (APPENDED_RULE, ASPIF_BEYOND, ASPIF_TIMES_LONGER, ATOMS, BROKEN,
+                   BRUTE_FORCE_LITERALS, CHECKED_LITERALS, CLASH, LAST_ATOM, LAST_NUMBERED_RULE,
+                   LAST_TAG, PLAIN, REFUSED, SMALLER, SOURCE, TIMES_LONGER, YES, Opposition,
+                   Override, Remainder, answer_sets, appended_rules, aspif, aspif_text, atom,
+                   check_plain, check_source, defeasible, defeated, derived, encoded_item,
+                   encoded_literals, encoded_program, encoded_set, expanded, extend, extension,
+                   filter, first_smaller_by_brute_force, first_smaller_by_search, is_answer_set,
+                   is_interpretation, is_model, negated, numbering, opposite, proper_subsets,
+                   quotient, quotient_plain, quotient_source, read_items, read_plain, read_rules,
+                   read_source, restrict, restriction, rule_defeated, show_plain, show_source,
+                   strict, subsets, sum_length, translate, translation, written_rules)
 
 SEED = 20_240_601
 MATCHED_SOURCES = 400
 COMPARED_SEARCHES = 400
 MATCHED_TEXTS = 200
+MATCHED_SHEETS = 120
+COMPARED_EXPANSIONS = 300
 
 
 class Tally:
@@ -157,6 +160,137 @@ def kinds_of_literals(tally):
 
 
 # ---------------------------------------------------------------------------------------------
+# Preference sheets
+
+
+def example_with_sheets(tally):
+    """Document 000's Example 1 written with sheets: M3, its strict rules appended in M3's order."""
+    source = encoded_program(samples.M3_SHEETS)
+    tally.same("bytes of sheets", source[39:], bytes.fromhex("""
+        4F 3A 00 01 00 02  58 3A 00 00 00 00 01 00 00 00 00 04
+        58 3A 00 00 00 00 01 00 00 00 00 05  58 3A 00 00 00 00 02 00 00 00 00 05  45 3A 00 02"""))
+    tally.same("M3 with sheets", expanded(samples.M3_SHEETS), samples.M3)
+    tally.same("read with sheets", read_rules(SOURCE, source), samples.M3)
+    tally.same("rules of M3 with sheets", read_source(source).word, 2)
+    tally.same("rule 2 of M3 with sheets", show_source(source, 2).word, (22 << 32) + 17)
+    tally.same("rule 3 of M3 with sheets", show_source(source, 3).word, refused(13, 0))
+    tally.same("plain with sheets", read_plain(source[39:]).word, refused(3, 0))
+    whole = encoded_program(samples.M3)
+    lent = pattern(500)
+    tally.same("translation with sheets", translate(source, out=lent), translate(whole, out=lent))
+    tally.same("filter with sheets", filter(source), filter(whole))
+    marks = defeated(2, atom(4)), defeated(2, atom(5))
+    for literals in ({atom(1), *marks}, {atom(3), atom(5)}, {atom(1)}, {atom(3), atom(4), atom(5)}):
+        proposed = encoded_set(literals)
+        for call in (check_source, quotient_source, extend):
+            tally.same(f"{call.__name__} with sheets", call(source, proposed, out=lent),
+                       call(whole, proposed, out=lent))
+    # The first appended rule, which show refuses.
+    tally.same("appended rule broken",
+               check_source(source, encoded_set({atom(1), atom(4)}), out=lent).word, BROKEN + 3)
+
+
+def orders_and_repeats(tally):
+    """What is appended, in which order, and what is not."""
+    one, two, three, four = map(atom, (1, 2, 3, 4))
+    both = [defeasible(1, [one, two]), defeasible(2, [one, two, negated(1)])]
+
+    def beats(lower, b, a):
+        return strict([defeated(lower, b)], [a])
+
+    def check(name, items, expected):
+        tally.same(f"appended, {name}", appended_rules(items), expected)
+        tally.same(f"sum's length, {name}", sum_length(encoded_program(items)),
+                   len(encoded_program(items)) + APPENDED_RULE * len(expected))
+
+    over, under = Override(1, 2), Override(2, 1)
+    pair = Opposition(one, two)
+    ways = [beats(2, two, one), beats(2, one, two)]
+    back = [beats(1, two, one), beats(1, one, two)]
+    check("as written first", both + [over, pair], ways)
+    check("turned round", both + [over, Opposition(two, one)], ways[::-1])
+    check("override by override", both + [over, pair, under], ways + back)
+    check("the second override first", both + [under, pair, over], back + ways)
+    check("opposition by opposition", both + [pair, over, Opposition(one, negated(1))],
+          ways + [beats(2, negated(1), one)])
+    check("the same again", both + [over, pair, over, pair, Opposition(two, one)], ways)
+    check("rules behind sheets", [over, both[1], pair, both[0]], ways)
+    check("an equal rule is written", [beats(2, two, one)] + both + [over, pair], ways)
+    check("an atom and its negation", [defeasible(1, [one]), defeasible(2, [negated(1)]), over,
+                                       Opposition(negated(1), one)], [beats(2, negated(1), one)])
+    check("no override", both + [pair], [])
+    check("no opposition", both + [over], [])
+    check("tags not in use", both + [Override(1, 3), Override(3, 2), Override(200, 199), pair], [])
+    check("no such option", both + [over, Opposition(one, three), Opposition(four, two)], [])
+    check("not headed by the upper tag", [defeasible(1, [three]), both[1], over, pair], [])
+    check("not headed by the lower tag", [both[0], defeasible(2, [three]), over, pair], [])
+    check("headed one way alone", [defeasible(1, [one]), defeasible(2, [two]), over, pair],
+          ways[:1])
+    check("strict heads", [strict([one]), defeasible(1, [two]), strict([defeated(1, one)]),
+                           defeasible(2, [one, two]), over, pair], [beats(2, one, two)])
+    check("in bodies alone", [defeasible(1, [three], [one], [two]), both[1], over, pair], [])
+    check("heads of two rules with one tag",
+          [defeasible(1, [one]), defeasible(1, [two]), both[1], over, pair], ways)
+    check("no rules", [over, pair], [])
+
+
+def wrong_sheets(tally):
+    """Each refusal of a sheet's record, at its place, in order."""
+    rule = strict([atom(1)])
+    start = encoded_program([rule])[:-4]
+    end = encoded_program([rule])[-4:]
+    over, pair = Override(1, 2), Opposition(atom(1), atom(2))
+
+    def refusal(name, record, number, beyond=0, behind=end):
+        tally.same(f"sheet, {name}", read_source(start + record + behind).word,
+                   refused(number, len(start) + beyond))
+
+    for item, size in ((over, 6), (pair, 12)):
+        record = encoded_item(item)
+        tally.same("a sheet's record", (len(record), read_source(start + record + end).word),
+                   (size, 1))
+        tally.same("a sheet's record in plain form", read_plain(start + record + end).word,
+                   refused(3, len(start)))
+        tally.same("a sheet behind the end", read_source(start + end + record).word,
+                   refused(8, len(start)))
+        for length in range(1, size):
+            refusal(f"{length} of {size} bytes", record[:length], 2, behind=b"")
+    for tags in ((0, 1), (1, 0), (0, 0), (201, 1), (1, 201), (201, 201), (256, 1), (1, 65_535)):
+        refusal(f"tags {tags}", encoded_item(Override(*tags)), 6)
+    for tag in (1, 7, 200):
+        refusal(f"tags {tag} twice", encoded_item(Override(tag, tag)), 14)
+    for tags in ((1, 200), (200, 1), (199, 200)):
+        tally.same(f"tags {tags}", read_source(start + encoded_item(Override(*tags)) + end).word, 1)
+    one = atom(1)
+    for wrong in (atom(0), negated(0), atom(501), negated(501), defeated(1, one), derived(1, one),
+                  rule_defeated(1), one._replace(tag=1), one._replace(kind=7)):
+        refusal(f"{wrong} first", encoded_item(Opposition(wrong, one)), 5, 2)
+        refusal(f"{wrong} second", encoded_item(Opposition(one, wrong)), 5, 7)
+        refusal(f"{wrong} twice", encoded_item(Opposition(wrong, wrong)), 5, 2)
+    for option in (one, negated(500)):
+        refusal(f"{option} twice", encoded_item(Opposition(option, option)), 14)
+        tally.same(f"{option} and its opposite", read_source(
+            start + encoded_item(Opposition(option, opposite(option))) + end).word, 1)
+
+
+def sheet_limits(tally):
+    """So many of each kind, counted apart; one more is refused whatever it holds."""
+    most = SOURCE.sheets
+    full = [Override(1, 2)] * most + [Opposition(atom(1), atom(2))] * most
+    data = encoded_program(full)
+    tally.same("most sheets", (len(data), read_source(data).word), (6 * most + 12 * most + 4, 0))
+    place = len(data) - 4
+    for mark in (b"O:", b"X:"):
+        for rest in (b"", bytes(1), bytes(4), bytes(10), b"\xff" * 30):
+            tally.same(f"one {mark} more", read_source(data[:-4] + mark + rest).word,
+                       refused(4, place))
+    for one in (full[0], full[-1]):
+        tally.same("one too many of a kind alone",
+                   read_source(encoded_program([one] * (most + 1))).word,
+                   refused(4, most * len(encoded_item(one))))
+
+
+# ---------------------------------------------------------------------------------------------
 # The text in aspif
 
 # Each as its document, or the reading decided of it, has it: rules, and the lines of their text.
@@ -222,10 +356,11 @@ def read_word(form, data):
     return (read_source if form is SOURCE else read_plain)(data).word
 
 
-# The document's rows of limits: bytes, rules, heads, positives, nafs, last kind, literals of a set.
+# The documents' rows of limits: bytes, rules, heads, positives, nafs, last kind, literals of a set,
+# records of each kind in sheets.
 FIGURES = {
-    "source": (SOURCE, (63_236, 256, 16, 16, 16, 3, 1_000)),
-    "plain": (PLAIN, (317_444, 12_800, 16, 16, 17, 6, 5_352)),
+    "source": (SOURCE, (64_388, 256, 16, 16, 16, 3, 1_000, 64)),
+    "plain": (PLAIN, (456_708, 20_992, 16, 16, 17, 6, 5_352, 0)),
 }
 
 
@@ -233,12 +368,12 @@ def figures(tally):
     """The reference's figures are the document's; the checks of limits go by the reference's."""
     for name, (form, row) in FIGURES.items():
         found = (form.length, form.rules, form.heads, form.positives, form.nafs, form.kinds[-1],
-                 form.set_literals)
+                 form.set_literals, form.sheets)
         tally.same(f"figures of the {name} form", found, row)
     tally.same("last atom, tag, numbered rule", (LAST_ATOM, LAST_TAG, LAST_NUMBERED_RULE),
                (500, 200, 256))
     tally.same("literals of a set that is checked", CHECKED_LITERALS, 64)
-    tally.same("times as long", TIMES_LONGER, 13)
+    tally.same("times as long", (TIMES_LONGER, APPENDED_RULE), (13, 17))
     tally.same("bound of a text", (ASPIF_TIMES_LONGER, ASPIF_BEYOND), (2, 29_012))
 
 
@@ -290,17 +425,12 @@ def number_limits(tally):
         tally.same(f"rule number {number} in a source", read_word(SOURCE, data), refused(5, 7))
 
 
-def wide_program(rules, tag):
-    """Rules with every count at the source form's limit."""
-    literals = [atom(number) for number in ATOMS]
-    return [defeasible(tag, literals[:SOURCE.heads], literals[:SOURCE.positives],
-                       literals[:SOURCE.nafs])] * rules
-
-
 def length_limits(tally):
-    source = encoded_program(wide_program(SOURCE.rules, 7))
+    items = samples.most_appended(SOURCE)
+    source = encoded_program(items)
     tally.same("longest source", len(source), SOURCE.length)
     tally.same("longest source is read", read_word(SOURCE, source), SOURCE.rules)
+    tally.same("most appended rules", len(appended_rules(items)), 2 * SOURCE.sheets ** 2)
     tally.same("source too long", read_word(SOURCE, source + b"\0"), refused(1, 0))
     word, plain = translate(source, out=bytes(PLAIN.length + 1))
     tally.same("longest translation", word, PLAIN.length)
@@ -383,12 +513,68 @@ def one_to_one_match(tally, rng):
     tally.same("some sources with several answer sets", several > MATCHED_SOURCES // 20, True)
 
 
-def translation_as_bytes(tally, rules, plain):
+def translation_as_bytes(tally, items, plain):
     """What translate writes is read as the translation, and its length is the document's sum."""
-    source = encoded_program(rules)
-    word, buffer = translate(source, out=bytes(TIMES_LONGER * len(source)))
-    tally.same(f"translation {rules}", read_rules(PLAIN, buffer[:word]), plain)
-    tally.same(f"length {rules}", word, 4 + sum(map(translated_length, rules)))
+    source = encoded_program(items)
+    word, buffer = translate(source, out=bytes(TIMES_LONGER * sum_length(source)))
+    tally.same(f"translation {items}", read_rules(PLAIN, buffer[:word]), plain)
+    tally.same(f"length {items}", word, 4 + sum(map(translated_length, expanded(items))))
+
+
+def matched_items(rng, most):
+    """A random source whose sheets append some rule, few enough literals to try all sets."""
+    while True:
+        items = samples.random_items(rng, random_shape(rng), 3)
+        if (appended_rules(items)
+                and len(samples.literals_of(translation(expanded(items)))) <= most):
+            return items
+
+
+def match_with_sheets(tally, rng):
+    """Answer sets of a source with sheets and of its translation; the same rules written out."""
+    several = 0
+    for run in range(MATCHED_SHEETS):
+        items = matched_items(rng, 11 if run % 20 == 0 else 9)
+        rules, source = expanded(items), encoded_program(items)
+        word, buffer = translate(source, out=bytes(TIMES_LONGER * sum_length(source)))
+        plain = read_rules(PLAIN, buffer[:word])
+        sets = answer_sets(rules, samples.literals_of(rules))
+        several += len(sets) > 1
+        found = answer_sets(plain, samples.literals_of(plain))
+        tally.same(f"match {items}", sorted(sorted(extension(rules, one)) for one in sets),
+                   sorted(map(sorted, found)))
+        translation_as_bytes(tally, items, plain)
+        whole = encoded_program(rules)
+        tally.same(f"written out {items}", translate(whole, out=bytes(word)).buffer, buffer[:word])
+    tally.same("some sheets with several answer sets", several > 0, True)
+
+
+def expansions(tally, rng):
+    """What is appended, by a test of each candidate, beside the reference's loops."""
+    long = 0
+    for _ in range(COMPARED_EXPANSIONS):
+        shape = samples.Shape(rules=rng.randint(0, 12), atoms=rng.randint(1, 8),
+                              tags=rng.randint(1, 6), heads=rng.randint(1, 5))
+        items = samples.random_items(rng, shape, rng.choice((2, 6, 20)))
+        rules = written_rules(items)
+
+        def heads(tag, option):
+            return any(rule.tag == tag and option in rule.heads for rule in rules)
+
+        wanted = []
+        for over in filter_kind(items, Override):
+            for pair in filter_kind(items, Opposition):
+                for a, b in (tuple(pair), tuple(pair)[::-1]):
+                    rule = strict([defeated(over.lower, b)], [a])
+                    if heads(over.upper, a) and heads(over.lower, b) and rule not in wanted:
+                        wanted.append(rule)
+        long += len(wanted) > 5
+        tally.same(f"expanded {items}", expanded(items), rules + wanted)
+    tally.same("some expansions with many rules", long > COMPARED_EXPANSIONS // 20, True)
+
+
+def filter_kind(items, kind):
+    return [item for item in items if isinstance(item, kind)]
 
 
 def translated_length(rule):
@@ -487,24 +673,26 @@ def texts_and_programs(tally, rng):
 
 def reading_and_writing(tally, rng):
     """Reading gives back what was encoded, and each proper prefix is refused as cut."""
-    for run in range(60):
-        form = SOURCE if run % 2 == 0 else PLAIN
-        make = samples.random_source if form is SOURCE else samples.random_plain
-        rules = make(rng, samples.Shape(rules=rng.randint(0, 4)))
-        data = encoded_program(rules)
-        tally.same(f"read {rules}", read_rules(form, data), rules)
+    for run in range(90):
+        shape = samples.Shape(rules=rng.randint(0, 4))
+        form = (SOURCE, PLAIN, SOURCE)[run % 3]
+        items = (samples.random_source(rng, shape), samples.random_plain(rng, shape),
+                 samples.random_items(rng, shape, 4))[run % 3]
+        data = encoded_program(items)
+        tally.same(f"read {items}", read_items(form, data), items)
         cut = rng.randrange(len(data))
-        tally.same(f"cut {rules}", read_word(form, data[:cut]) >> 32, refused(2, 0) >> 32)
+        tally.same(f"cut {items}", read_word(form, data[:cut]) >> 32, refused(2, 0) >> 32)
 
 
 def main():
     tally = Tally()
     for part in (marked_example_1, marked_example_2, marked_example_3, marked_examples_4_and_5,
-                 marked_examples_6_to_9, kinds_of_literals, texts_in_aspif, bound_of_texts, figures,
-                 rule_limits, count_limits, number_limits, length_limits, set_limits, show_limits):
+                 marked_examples_6_to_9, kinds_of_literals, example_with_sheets, orders_and_repeats,
+                 wrong_sheets, texts_in_aspif, bound_of_texts, figures, rule_limits, sheet_limits,
+                 count_limits, number_limits, length_limits, set_limits, show_limits):
         tally.run(part)
-    for part in (one_to_one_match, brute_force_and_search, verdicts_and_answer_sets,
-                 texts_and_programs, reading_and_writing):
+    for part in (one_to_one_match, match_with_sheets, expansions, brute_force_and_search,
+                 verdicts_and_answer_sets, texts_and_programs, reading_and_writing):
         tally.run(part, random.Random(f"{SEED} {part.__name__}"))
     print(f"{tally.checks} checks, {tally.failed} failed")
     return 1 if tally.failed or not tally.checks else 0

@@ -63,7 +63,7 @@ std::uint64_t by_reference(const Call &call, Bytes &buffer);
 // What stands in a lent buffer before a call.
 Bytes filling(std::size_t length, unsigned salt);
 
-constexpr std::size_t last_refusal = 13;
+constexpr std::size_t last_refusal = 14;
 
 // How often an operation gave results, each refusal number and each verdict.
 struct Tally {

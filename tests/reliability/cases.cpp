@@ -3,11 +3,14 @@
 #include "../../include/aspda.h"
 
 #include <algorithm>
+#include <string>
 
 namespace cases {
 
 using reference::Literal;
 using reference::Literals;
+using reference::Opposition;
+using reference::Override;
 using reference::Program;
 using reference::Rule;
 using reference::checked_set;
@@ -23,7 +26,9 @@ constexpr std::size_t literal_size = 5, set_header = 4, rule_header = 7;
 // Room for every result of a call with these inputs.
 std::size_t ample(const Call &call)
 {
-    return reference::times_longer * call.program.size() + 6 * call.set.size() + 64;
+    bool is_source = calls::exports[call.operation].form == Form::source;
+    std::size_t length = is_source ? reference::summed_length(call.program) : call.program.size();
+    return reference::times_longer * length + 6 * call.set.size() + 64;
 }
 
 Bytes encoded(Literals set)
@@ -90,13 +95,45 @@ void misplace(Random &random, Bytes &set)
     else std::swap_ranges(at(from), at(from) + literal_size, at(to));
 }
 
+// Where something stands that looks like the mark of a record with one of these letters.
+std::vector<std::size_t> marks_in(const Bytes &bytes, const std::string &letters)
+{
+    std::vector<std::size_t> marks;
+    for (std::size_t i = 0; i + 1 < bytes.size(); ++i)
+        if (bytes[i + 1] == ':' && letters.find(static_cast<char>(bytes[i])) != std::string::npos) marks.push_back(i);
+    return marks;
+}
+
+// Cuts the last record of a sheet; false if there is none.
+bool cut_sheet(Random &random, Bytes &bytes)
+{
+    std::vector<std::size_t> marks = marks_in(bytes, "OX");
+    if (marks.empty()) return false;
+    bytes.resize(std::min(bytes.size(), marks.back() + random.between(1, 12)));
+    return true;
+}
+
+// Puts a record of a sheet, right or wrong, whole or cut, before something that looks like a record.
+void insert_sheet(Random &random, Bytes &bytes)
+{
+    std::vector<std::size_t> marks = marks_in(bytes, "SDOXE");
+    if (marks.empty()) return;
+    auto number = [&] { return static_cast<std::uint8_t>(random.once_in(4) ? near(random, 1) : random.between(1, 4)); };
+    auto sign = [&] { return static_cast<std::uint8_t>(random.once_in(8) ? near(random, 1) : random.below(2)); };
+    Bytes record{'O', ':', 0, number(), 0, number()};
+    if (random.once_in(2)) record = {'X', ':', sign(), 0, 0, 0, number(), sign(), 0, 0, 0, number()};
+    if (random.once_in(5)) record.resize(random.below(record.size()));
+    bytes.insert(bytes.begin() + random.pick(marks), record.begin(), record.end());
+}
+
 } // namespace
 
 void damage(Random &random, Bytes &bytes)
 {
     std::size_t at = random.below(bytes.size());
-    switch (random.below(8)) {
+    switch (random.below(9)) {
     case 0: // cut
+        if (random.once_in(3) && cut_sheet(random, bytes)) return;
         bytes.resize(random.once_in(2) ? at : bytes.size() - std::min(bytes.size(), random.between(1, 8)));
         return;
     case 1: // longer
@@ -111,12 +148,33 @@ void damage(Random &random, Bytes &bytes)
     case 4: // wrong order
         if (bytes.size() >= set_header + literal_size) misplace(random, bytes);
         return;
-    case 5: // a stretch left out
+    case 5: // a sheet's record more
+        insert_sheet(random, bytes);
+        return;
+    case 6: // a stretch left out
         bytes.erase(bytes.begin() + at, bytes.begin() + std::min(bytes.size(), at + random.between(1, 7)));
         return;
     default: // flipped
         if (!bytes.empty()) bytes[at] = near(random, bytes[at]);
     }
+}
+
+Bytes most_appended()
+{
+    constexpr reference::Limits most = source_limits;
+    auto option = [](std::size_t i) {
+        return Literal{i % 2 == 0 ? reference::negated : reference::atom, 0, static_cast<unsigned>(last_atom - 3 * i)};
+    };
+    Rule widest{true, 0, {}, Literals(most.positive, option(0)), Literals(most.naf, option(1)), 0, 0};
+    for (std::size_t i = 0; i < most.head; ++i) widest.head.push_back(option(i));
+    Program rules(most.rules, widest);
+    for (std::size_t i = 0; i < most.rules; ++i) rules[i].tag = last_tag - static_cast<unsigned>(i % (most.sheets + 1));
+    reference::Sheets sheets;
+    for (std::size_t i = 1; i <= most.sheets; ++i) sheets.overrides.push_back({rules[0].tag, rules[i].tag, i});
+    for (std::size_t i = 0; i < most.head; ++i)
+        for (std::size_t j = 0; j < i && sheets.oppositions.size() < most.sheets; ++j)
+            sheets.oppositions.push_back({option(i), option(j), most.rules - i});
+    return reference::program_bytes(rules, sheets);
 }
 
 namespace {
@@ -157,10 +215,64 @@ void Batch::choose_shape()
     if (random.once_in(25)) body = source_limits.positive;
 }
 
+// How many records of a kind the sheets of a small source have.
+std::size_t Batch::sheet_count()
+{
+    if (random.once_in(40)) return random.between(source_limits.sheets - 1, source_limits.sheets + 1);
+    return random.once_in(10) ? random.between(6, 20) : random.between(random.once_in(10) ? 0 : 1, 5);
+}
+
+// Mostly of tags and options that the source's defeasible rules have; some again, some turned round.
+void Batch::make_sheets(std::size_t overrides, std::size_t oppositions)
+{
+    Literals headed; // options, each with its rule's tag
+    for (const Rule &one : source.rules)
+        for (const Literal &option : one.head)
+            if (one.defeasible) headed.push_back({option.kind, one.tag, option.number});
+    auto drawn = [&] {
+        if (!headed.empty() && !random.once_in(12)) return random.pick(headed);
+        return Literal{static_cast<unsigned>(random.below(2)), static_cast<unsigned>(random.between(1, last_tag)),
+                       static_cast<unsigned>(random.between(1, last_atom))};
+    };
+    auto place = [&] { return random.below(source.rules.size() + 1); };
+    while (sheets.overrides.size() < overrides) {
+        Override made{drawn().tag, drawn().tag, place()};
+        if (!sheets.overrides.empty() && random.once_in(6)) made = random.pick(sheets.overrides);
+        if (random.once_in(6)) std::swap(made.upper, made.lower);
+        if (made.upper == made.lower && !random.once_in(60)) made.lower = made.lower % last_tag + 1;
+        sheets.overrides.push_back(made);
+    }
+    while (sheets.oppositions.size() < oppositions) {
+        Opposition made{drawn(), drawn(), place()};
+        if (!sheets.oppositions.empty() && random.once_in(6)) made = random.pick(sheets.oppositions);
+        made.first.tag = made.second.tag = 0;
+        if (random.once_in(6)) std::swap(made.first, made.second);
+        if (random.once_in(20) || (made.first == made.second && !random.once_in(60)))
+            made.second = {1 - made.first.kind, 0, made.first.number};
+        if (random.once_in(100)) (random.once_in(2) ? made.first : made.second) = literal(source_limits.last_kind);
+        sheets.oppositions.push_back(made);
+    }
+}
+
+// Writes one of the rules that would be appended: it is appended all the same.
+void Batch::write_out()
+{
+    Program meant = reference::rules_of(Form::source, reference::program_bytes(source.rules, sheets));
+    std::size_t written = source.rules.size();
+    if (meant.size() > written) source.rules.push_back(meant[random.between(written, meant.size() - 1)]);
+}
+
 void Batch::make_small()
 {
     choose_shape();
+    bool has_sheets = random.once_in(2);
+    if (has_sheets) {
+        tags = std::max(tags, 2u);
+        rules += random.below(4);
+    }
     for (std::size_t i = 0; i < rules; ++i) source.rules.push_back(rule(Form::source));
+    if (has_sheets) make_sheets(sheet_count(), sheet_count());
+    if (has_sheets && random.once_in(4)) write_out();
     encode_source();
     if (random.once_in(2)) return;
     plain.rules.clear();
@@ -185,11 +297,17 @@ void Batch::make_disjunctive()
     plain.sets = source.sets;
 }
 
-// The largest source, whose translation is the largest plain program; or as many rules as a form takes, or one more.
+// The largest source, whose translation is the largest plain program if its sheets append the most rules; or as many
+// rules as a form takes, or one more.
 void Batch::make_limit()
 {
     atoms = last_atom;
     tags = last_tag;
+    if (random.once_in(3)) {
+        source.bytes = most_appended();
+        take_source();
+        return;
+    }
     bool is_full = random.once_in(2);
     const reference::Limits most = source_limits;
     rules = is_full ? most.rules : random.between(most.rules - 6, most.rules + 1);
@@ -206,6 +324,9 @@ void Batch::make_limit()
         }
         source.rules.push_back(made);
     }
+    // A full source has no byte for a record too many; with smaller rules it is one too many of its kind.
+    if (is_full || random.once_in(2))
+        make_sheets(random.between(most.sheets - 1, most.sheets + 1), random.between(most.sheets - 1, most.sheets + 1));
     encode_source();
     if (is_full) return;
     plain.rules.clear();
@@ -237,11 +358,18 @@ void Batch::make_most_literals()
     plain.bytes = reference::program_bytes(plain.rules);
 }
 
-// The source's bytes, and its translation for the plain side.
 void Batch::encode_source()
 {
-    source.bytes = reference::program_bytes(source.rules);
-    Bytes translation(reference::times_longer * source.bytes.size());
+    source.bytes = reference::program_bytes(source.rules, sheets);
+    take_source();
+}
+
+// What the source's bytes mean, if they are not refused, and its translation for the plain side.
+void Batch::take_source()
+{
+    Program meant = reference::rules_of(Form::source, source.bytes);
+    if (!meant.empty()) source.rules = meant;
+    Bytes translation(reference::times_longer * reference::summed_length(source.bytes));
     std::uint64_t word = reference::translate(source.bytes, translation);
     translation.resize(ASPDA_IS_REFUSAL(word) ? 0 : word);
     plain.bytes = translation;

@@ -36,11 +36,15 @@ private:
     std::uint64_t state;
 };
 
-// One byte, literal or count of a program or set changed, or the slice cut or made longer.
+// One byte, literal or count of a program or set changed, a record of a sheet put in, or the slice cut or made longer.
 void damage(Random &random, Bytes &bytes);
 
-// Small: few atoms and tags, so that rules meet. Disjunctive: strict rules without naf over a set that is a model of
-// them all, so that the check has to search. Limit: programs and sets at the forms' limits and one above.
+// The longest source, and of those one with the most appended rules: two for each two records of its sheets.
+Bytes most_appended();
+
+// Small: few atoms and tags, so that rules meet, with sheets or without. Disjunctive: strict rules without naf over a set
+// that is a model of them all, so that the check has to search. Limit: programs, sheets and sets at the forms' limits and
+// one above.
 enum class Style { small, disjunctive, limit };
 
 class Batch {
@@ -62,8 +66,12 @@ private:
     void make_disjunctive();
     void make_limit();
     void make_most_literals();
+    void make_sheets(std::size_t overrides, std::size_t oppositions);
+    std::size_t sheet_count();
+    void write_out();
     void make_sets(Form form);
     void encode_source();
+    void take_source();
     reference::Literal literal(unsigned last_kind);
     reference::Literals literals(std::size_t count, unsigned last_kind);
     reference::Rule rule(Form form);
@@ -83,6 +91,7 @@ private:
     unsigned atoms = 1, tags = 1;
     std::size_t rules = 0, head = 1, body = 1;
     Side source, plain;
+    reference::Sheets sheets; // the source's
 };
 
 } // namespace cases

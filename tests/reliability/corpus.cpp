@@ -31,12 +31,22 @@ void put_all(const std::string &directory, const Bytes &set, const Bytes &progra
     if (enough < 65536) put(directory, calls::aspif, enough, set, program);
 }
 
-// As many rules as a source takes, and one more; sets as large as the check and a source take, and one more.
+// As many rules and records of sheets as a source takes, and one more; sets as large as the check and a source take, and
+// one more.
 void put_limits(const std::string &directory)
 {
-    constexpr std::size_t most_rules = reference::source_limits.rules, most_literals = reference::source_limits.set;
+    constexpr std::size_t most_rules = reference::source_limits.rules, most_literals = reference::source_limits.set,
+                          most_sheets = reference::source_limits.sheets;
     for (std::size_t rules : {most_rules, most_rules + 1})
         put_all(directory, reference::set_bytes({}), reference::program_bytes(reference::Program(rules)));
+    const reference::Literal one{reference::atom, 0, 1}, two{reference::negated, 0, 2};
+    const reference::Program choices{{true, 1, {one, two}, {}, {}, 0, 0}, {true, 2, {one, two}, {}, {}, 0, 0}};
+    for (std::size_t sheets : {most_sheets, most_sheets + 1}) {
+        std::vector<reference::Override> overrides(sheets, {1, 2, 0});
+        std::vector<reference::Opposition> oppositions(sheets, {one, two, 2});
+        put_all(directory, reference::set_bytes({one}), reference::program_bytes(choices, {overrides, {oppositions[0]}}));
+        put_all(directory, reference::set_bytes({one}), reference::program_bytes(choices, {{overrides[0]}, oppositions}));
+    }
     for (std::size_t literals :
          {reference::checked_set, reference::checked_set + 1, most_literals, most_literals + 1}) {
         reference::Literals set;

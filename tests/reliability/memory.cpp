@@ -135,7 +135,8 @@ public:
     calls::Tallies tallies{};
 
 private:
-    Fenced program{400000}, set{40000}, out{6000000};
+    // One byte above the longest program, and room for every result, ample rooms too.
+    Fenced program{reference::plain_limits.length + 8}, set{40000}, out{14 * reference::plain_limits.length};
 };
 
 int run_fences()
@@ -270,13 +271,36 @@ void visit_deepest(const Visit &visit)
     }
 }
 
+// The source with the most rules to append, by every export that takes a source.
+void visit_most_appended(const Visit &visit)
+{
+    reference::Literals set;
+    for (unsigned number = 1; number <= reference::checked_set; ++number) set.push_back({reference::atom, 0, number});
+    for (unsigned operation = 0; operation < calls::exports.size(); ++operation) {
+        const calls::Export &taken = calls::exports[operation];
+        if (taken.form != calls::Form::source) continue;
+        Call call;
+        call.operation = operation;
+        call.program = cases::most_appended();
+        if (taken.takes_set) call.set = reference::set_bytes(set);
+        if (taken.takes_rule) call.rule = reference::source_limits.rules;
+        if (taken.takes_out) call.room = reference::plain_limits.length;
+        visit(call);
+    }
+}
+
 // What README and the header promise, with room for frames beside the arrays.
 std::size_t most_stack(unsigned operation)
 {
-    if (operation == calls::check_source) return 28 << 10;
-    if (operation == calls::check_plain) return 224 << 10;
-    if (operation == calls::aspif) return 96 << 10;
-    return operation == calls::extend ? 72 << 10 : 4 << 10;
+    switch (operation) {
+    case calls::check_source: return 360 << 10;
+    case calls::check_plain: return 352 << 10;
+    case calls::extend: return 272 << 10;
+    case calls::translate:
+    case calls::quotient_source: return 224 << 10;
+    case calls::aspif: return 96 << 10;
+    default: return 4 << 10;
+    }
 }
 
 int run_stack()
@@ -291,6 +315,7 @@ int run_stack()
     visit_all(20, 3, measure);
     visit_batches(Style::disjunctive, 40, measure);
     visit_deepest(measure);
+    visit_most_appended(measure);
     bool well = true;
     std::puts("export            stack in bytes, of at most");
     for (unsigned i = 0; i < calls::exports.size(); ++i) {

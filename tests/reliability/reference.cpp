@@ -1,7 +1,9 @@
 #include "reference.hpp"
 
 #include <algorithm>
+#include <set>
 #include <string>
+#include <utility>
 
 namespace reference {
 
@@ -56,6 +58,26 @@ void put_rule(Bytes &bytes, const Rule &rule)
     for (const Literals *part : {&rule.head, &rule.positive, &rule.naf})
         bytes.push_back(static_cast<std::uint8_t>(part->size()));
     for (const Literals *part : {&rule.head, &rule.positive, &rule.naf}) put_literals(bytes, *part);
+}
+
+void put_sheet(Bytes &bytes, const Override &over)
+{
+    put_mark(bytes, 'O');
+    put_two_bytes(bytes, over.upper);
+    put_two_bytes(bytes, over.lower);
+}
+
+void put_sheet(Bytes &bytes, const Opposition &pair)
+{
+    put_mark(bytes, 'X');
+    put_literals(bytes, {pair.first, pair.second});
+}
+
+// The records that stand before the rule of this index, of one kind.
+template <class Sheet> void put_sheets(Bytes &bytes, const std::vector<Sheet> &sheets, std::size_t index)
+{
+    for (const Sheet &sheet : sheets)
+        if (sheet.before == index) put_sheet(bytes, sheet);
 }
 
 Literal literal_at(const Bytes &bytes, std::size_t at)
@@ -123,22 +145,80 @@ void read_end(const Bytes &bytes, std::size_t at, std::size_t held)
     if (bytes.size() - at > 4) throw Refusal{8, at};
 }
 
-Program read_program(Form form, const Bytes &bytes)
+// ---- Preference sheets (document 02, ask 2)
+
+constexpr std::size_t override_length = 6, opposition_length = 12;
+
+// What a program's records say, before anything is made of its sheets.
+struct Written {
+    Program rules;
+    Sheets sheets;
+};
+
+// Room for one more record of a kind of which so many are held, and all its bytes.
+void expect_sheet(Form form, const Bytes &bytes, std::size_t at, std::size_t held, std::size_t length)
 {
-    if (bytes.size() > limits(form).length) throw Refusal{1, 0};
-    Program program;
-    std::size_t at = 0;
-    for (;;) {
+    if (held == limits(form).sheets) throw Refusal{4, at};
+    if (bytes.size() - at < length) throw Refusal{2, at};
+}
+
+bool is_tag(unsigned number)
+{
+    return number >= 1 && number <= last_tag;
+}
+
+void read_override(Form form, const Bytes &bytes, std::size_t at, Written &written)
+{
+    std::vector<Override> &held = written.sheets.overrides;
+    expect_sheet(form, bytes, at, held.size(), override_length);
+    unsigned upper = two_bytes(bytes, at + 2), lower = two_bytes(bytes, at + 4);
+    if (!is_tag(upper) || !is_tag(lower)) throw Refusal{6, at};
+    if (upper == lower) throw Refusal{14, at};
+    held.push_back({upper, lower, written.rules.size()});
+}
+
+Literal read_option(Form form, const Bytes &bytes, std::size_t at)
+{
+    Literal option = literal_at(bytes, at);
+    if (!is_option(option) || !is_of_form(option, form)) throw Refusal{5, at};
+    return option;
+}
+
+void read_opposition(Form form, const Bytes &bytes, std::size_t at, Written &written)
+{
+    std::vector<Opposition> &held = written.sheets.oppositions;
+    expect_sheet(form, bytes, at, held.size(), opposition_length);
+    Literal first = read_option(form, bytes, at + 2), second = read_option(form, bytes, at + 7);
+    if (first == second) throw Refusal{14, at};
+    held.push_back({first, second, written.rules.size()});
+}
+
+// ---- Read, a whole program
+
+Written read_program(Form form, const Bytes &bytes)
+{
+    const Limits most = limits(form);
+    if (bytes.size() > most.length) throw Refusal{1, 0};
+    Written written;
+    for (std::size_t at = 0;;) {
         if (bytes.size() - at < 2) throw Refusal{2, at};
-        bool is_end = is_mark(bytes, at, 'E');
-        bool is_rule = is_mark(bytes, at, 'S') || (form == Form::source && is_mark(bytes, at, 'D'));
-        if (!is_end && !is_rule) throw Refusal{3, at};
-        if (is_end) break;
-        program.push_back(read_rule(form, bytes, at, program.size()));
-        at += program.back().length;
+        if (is_mark(bytes, at, 'E')) {
+            read_end(bytes, at, written.rules.size());
+            return written;
+        }
+        if (is_mark(bytes, at, 'S') || (form == Form::source && is_mark(bytes, at, 'D'))) {
+            written.rules.push_back(read_rule(form, bytes, at, written.rules.size()));
+            at += written.rules.back().length;
+        } else if (most.sheets > 0 && is_mark(bytes, at, 'O')) {
+            read_override(form, bytes, at, written);
+            at += override_length;
+        } else if (most.sheets > 0 && is_mark(bytes, at, 'X')) {
+            read_opposition(form, bytes, at, written);
+            at += opposition_length;
+        } else {
+            throw Refusal{3, at};
+        }
     }
-    read_end(bytes, at, program.size());
-    return program;
 }
 
 // ---- Sets
@@ -211,6 +291,40 @@ void put_translated(Program &translation, const Rule &rule, std::size_t number)
         translation.push_back(strict({derivations[i]}, {rule.head[i]}, {defeats[i]}));
         translation.push_back(strict({}, {derivations[i], defeats[i]}, {}));
     }
+}
+
+// ---- The expanded program
+
+// An option in the head of a defeasible rule with the tag.
+using TaggedOption = std::pair<unsigned, Literal>;
+
+// The program that is meant: the rules that are written, and behind them what the sheets ask for.
+Program expanded(Written written)
+{
+    Program program = std::move(written.rules);
+    const Sheets &sheets = written.sheets;
+    if (sheets.overrides.empty() || sheets.oppositions.empty()) return program;
+    std::set<TaggedOption> headed;
+    for (const Rule &rule : program)
+        if (rule.defeasible)
+            for (const Literal &option : rule.head) headed.insert({rule.tag, option});
+    std::set<std::pair<Literal, Literal>> appended; // head and body
+    auto append = [&](const Override &over, const Literal &a, const Literal &b) {
+        if (headed.count({over.upper, a}) == 0 || headed.count({over.lower, b}) == 0) return;
+        Literal mark = defeat_mark(over.lower, b);
+        if (appended.insert({mark, a}).second) program.push_back(strict({mark}, {a}, {}));
+    };
+    for (const Override &over : sheets.overrides)
+        for (const Opposition &pair : sheets.oppositions) {
+            append(over, pair.first, pair.second);
+            append(over, pair.second, pair.first);
+        }
+    return program;
+}
+
+Program program_meant(Form form, const Bytes &bytes)
+{
+    return expanded(read_program(form, bytes));
 }
 
 // ---- Export to aspif (document 02, ask 1)
@@ -518,10 +632,14 @@ std::uint64_t judge(const Program &program, const Literals &set, Bytes &buffer)
 
 // ---- The operations
 
-Bytes program_bytes(const Program &program)
+Bytes program_bytes(const Program &program, const Sheets &sheets)
 {
     Bytes bytes;
-    for (const Rule &rule : program) put_rule(bytes, rule);
+    for (std::size_t i = 0; i <= program.size(); ++i) {
+        put_sheets(bytes, sheets.overrides, i);
+        put_sheets(bytes, sheets.oppositions, i);
+        if (i < program.size()) put_rule(bytes, program[i]);
+    }
     put_mark(bytes, 'E');
     put_two_bytes(bytes, program.size());
     return bytes;
@@ -539,21 +657,32 @@ Bytes set_bytes(const Literals &set)
 Program rules_of(Form form, const Bytes &bytes)
 {
     try {
-        return read_program(form, bytes);
+        return program_meant(form, bytes);
     } catch (const Refusal &) {
         return {};
     }
 }
 
+std::size_t summed_length(const Bytes &source)
+{
+    try {
+        Written written = read_program(Form::source, source);
+        std::size_t rules = written.rules.size();
+        return source.size() + appended_rule * (expanded(std::move(written)).size() - rules);
+    } catch (const Refusal &) {
+        return source.size();
+    }
+}
+
 std::uint64_t read(Form form, const Bytes &program)
 {
-    return word_of([&] { return read_program(form, program).size(); });
+    return word_of([&] { return read_program(form, program).rules.size(); });
 }
 
 std::uint64_t show(Form form, const Bytes &program, std::uint32_t rule)
 {
     return word_of([&] {
-        Program rules = read_program(form, program);
+        Program rules = read_program(form, program).rules;
         if (rule == 0 || rule > rules.size()) throw Refusal{13, 0};
         return (static_cast<std::uint64_t>(rules[rule - 1].start) << 32) + rules[rule - 1].length;
     });
@@ -562,7 +691,7 @@ std::uint64_t show(Form form, const Bytes &program, std::uint32_t rule)
 std::uint64_t translate(const Bytes &source, Bytes &buffer)
 {
     return word_of([&] {
-        Program rules = read_program(Form::source, source), translation;
+        Program rules = program_meant(Form::source, source), translation;
         for (std::size_t i = 0; i < rules.size(); ++i) {
             if (rules[i].defeasible) put_translated(translation, rules[i], i + 1);
             else translation.push_back(rules[i]);
@@ -574,7 +703,7 @@ std::uint64_t translate(const Bytes &source, Bytes &buffer)
 std::uint64_t quotient(Form form, const Bytes &program, const Bytes &set, Bytes &buffer)
 {
     return word_of([&] {
-        Program rules = read_program(form, program), left;
+        Program rules = program_meant(form, program), left;
         Literals literals = read_set(form, set, limits(form).set);
         for (const Remainder &rule : quotient_of(rules, literals)) left.push_back(strict(rule.head, rule.positive, {}));
         return deliver(program_bytes(left), buffer);
@@ -584,7 +713,7 @@ std::uint64_t quotient(Form form, const Bytes &program, const Bytes &set, Bytes 
 std::uint64_t extend(const Bytes &source, const Bytes &set, Bytes &buffer)
 {
     return word_of([&] {
-        Program rules = read_program(Form::source, source);
+        Program rules = program_meant(Form::source, source);
         Literals literals = read_set(Form::source, set, limits(Form::source).set);
         return deliver(set_bytes(extension(rules, literals)), buffer);
     });
@@ -602,13 +731,13 @@ std::uint64_t restriction(const Bytes &set, Bytes &buffer)
 
 std::uint64_t aspif(const Bytes &program, Bytes &buffer)
 {
-    return word_of([&] { return deliver(Text(read_program(Form::plain, program)).bytes(), buffer); });
+    return word_of([&] { return deliver(Text(program_meant(Form::plain, program)).bytes(), buffer); });
 }
 
 std::uint64_t check(Form form, const Bytes &program, const Bytes &set, Bytes &buffer)
 {
     return word_of([&] {
-        Program rules = read_program(form, program);
+        Program rules = program_meant(form, program);
         Literals literals = read_set(form, set, checked_set);
         if (buffer.size() < set.size()) throw Refusal{9, 0};
         return judge(rules, literals, buffer);

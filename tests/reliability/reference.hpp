@@ -1,6 +1,6 @@
-// A second reference, in C++ so that millions of calls can be compared: every operation of document 01 and document 02's
-// export to aspif, written from those documents and from include/aspda.h, without the library's definitions or code and
-// without the Python reference.
+// A second reference, in C++ so that millions of calls can be compared: every operation of document 01, document 02's
+// export to aspif and its preference sheets, written from those documents and from include/aspda.h, without the
+// library's definitions or code and without the Python reference.
 // It is written for plainness: a program becomes a vector of rules, a set a sorted vector.
 #pragma once
 
@@ -17,15 +17,17 @@ enum class Form { source, plain };
 
 enum Kind : unsigned { atom, negated, defeated, defeated_negated, derived, derived_negated, rule_defeated };
 
-// A form's row of limits (document 01, "Source form and plain form").
+// A form's row of limits (document 01, "Source form and plain form", as document 02's ask 2 changes it).
 struct Limits {
     std::size_t length, rules, head, positive, naf;
     unsigned last_kind;
     std::size_t set;
+    // Records of preference sheets, of each kind; a form that takes none has no marks for them.
+    std::size_t sheets;
 };
 
-constexpr Limits source_limits{63236, 256, 16, 16, 16, defeated_negated, 1000};
-constexpr Limits plain_limits{317444, 12800, 16, 16, 17, rule_defeated, 5352};
+constexpr Limits source_limits{64388, 256, 16, 16, 16, defeated_negated, 1000, 64};
+constexpr Limits plain_limits{456708, 20992, 16, 16, 17, rule_defeated, 5352, 0};
 
 constexpr Limits limits(Form form)
 {
@@ -34,8 +36,8 @@ constexpr Limits limits(Form form)
 
 constexpr unsigned last_atom = 500, last_tag = 200, last_rule_number = 256;
 constexpr std::size_t checked_set = 64;
-// A translation has at most so many times its source's bytes.
-constexpr std::size_t times_longer = 13;
+// A translation has at most so many times its source's bytes, to which each appended rule adds so many.
+constexpr std::size_t times_longer = 13, appended_rule = 17;
 
 // A text in aspif has at most so many bytes, for a program of so many.
 constexpr std::size_t aspif_bound(std::size_t length)
@@ -69,11 +71,32 @@ struct Rule {
 
 using Program = std::vector<Rule>;
 
-// The bytes of a program and of a set, whether or not they keep a form's limits.
-Bytes program_bytes(const Program &program);
+// The upper tag overrides the lower one; `before` rules stand before its record.
+struct Override {
+    unsigned upper, lower;
+    std::size_t before;
+};
+
+// The two options oppose each other; `before` rules stand before its record.
+struct Opposition {
+    Literal first, second;
+    std::size_t before;
+};
+
+// Preference sheets, each kind in the order of its records.
+struct Sheets {
+    std::vector<Override> overrides;
+    std::vector<Opposition> oppositions;
+};
+
+// The bytes of a program, with sheets, and of a set, whether or not they keep a form's limits. Of the records before one
+// rule the overrides come first.
+Bytes program_bytes(const Program &program, const Sheets &sheets = {});
 Bytes set_bytes(const Literals &set);
-// The rules of a program's bytes; none if they are refused.
+// The rules of the program that the bytes mean, appended ones too; none if they are refused.
 Program rules_of(Form form, const Bytes &bytes);
+// A source's length for the thirteenfold bound: its bytes, and more for each appended rule.
+std::size_t summed_length(const Bytes &source);
 
 // Each gives the word of include/aspda.h. `buffer` is the lent output slice: it comes with what it holds before the
 // call and leaves with what it holds afterwards.

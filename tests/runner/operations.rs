@@ -38,13 +38,13 @@ impl Operation {
 }
 
 // The numbers of refusal that each operation can give.
-const READ_SOURCE: &[u64] = &[1, 2, 3, 4, 5, 6, 7, 8];
+const READ_SOURCE: &[u64] = &[1, 2, 3, 4, 5, 6, 7, 8, 14];
 const READ_PLAIN: &[u64] = &[1, 2, 3, 4, 5, 6, 8];
-const SHOW_SOURCE: &[u64] = &[1, 2, 3, 4, 5, 6, 7, 8, 13];
+const SHOW_SOURCE: &[u64] = &[1, 2, 3, 4, 5, 6, 7, 8, 13, 14];
 const SHOW_PLAIN: &[u64] = &[1, 2, 3, 4, 5, 6, 8, 13];
-pub const TRANSLATE: &[u64] = &[1, 2, 3, 4, 5, 6, 7, 8, 9];
+pub const TRANSLATE: &[u64] = &[1, 2, 3, 4, 5, 6, 7, 8, 9, 14];
 const PLAIN_TO_OUT: &[u64] = &[1, 2, 3, 4, 5, 6, 8, 9];
-const SOURCE_AND_SET: &[u64] = &[1, 2, 3, 4, 5, 6, 7, 8, 9, 10, 11, 12];
+const SOURCE_AND_SET: &[u64] = &[1, 2, 3, 4, 5, 6, 7, 8, 9, 10, 11, 12, 14];
 const PLAIN_AND_SET: &[u64] = &[1, 2, 3, 4, 5, 6, 8, 9, 10, 11, 12];
 const SET_ALONE: &[u64] = &[9, 10, 11, 12];
 

@@ -78,7 +78,7 @@ def recorded_translations():
 
 def kits():
     """M3 and the kits: the extensions of the answer sets that a search on the source finds."""
-    for path in answers.kit_files():
+    for path in answers.marked_files() + answers.kit_files():
         program = read_program(path.read_text(encoding="ascii"))
         found = read_sets(answers.answers_file(path).read_text(encoding="ascii"), program.names)
         yield Case(translation(program.rules),

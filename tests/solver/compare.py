@@ -23,7 +23,7 @@ sys.path.insert(0, str(Path(__file__).resolve().parent.parent / "reference"))
 import recorded                                                                 # noqa: E402
 from aspda import (PLAIN, REFUSAL, REFUSAL_RECORD, SOURCE, Refusal, answer_sets,    # noqa: E402
                    encoded_program, extension, first_smaller_by_search, is_interpretation,
-                   is_model, quotient, read_rules, restriction, translation)
+                   is_model, quotient, read_items, read_rules, restriction, translation)
 from samples import literals_of                                                 # noqa: E402
 from solve import rule_words                                                    # noqa: E402
 
@@ -48,7 +48,7 @@ def faults(case, command):
 
 def program_faults(case, rules, plain):
     return named({
-        "the source's bytes": encoded_program(rules) == case.source,
+        "the source's bytes": encoded_program(read_items(SOURCE, case.source)) == case.source,
         "the translation's bytes": encoded_program(translation(rules)) == case.translation,
         "the translation read back": translation(rules) == plain,
     })

@@ -1,5 +1,5 @@
-"""Makes the byte files of examples/: the marked examples M1 and M3, their translations, and the
-translations' texts in aspif.
+"""Makes the byte files of examples/: the marked examples M1 and M3, M3 with preference sheets, their
+translations, and the translations' texts in aspif.
 
     python3 tests/solver/examples.py            write them afresh
     python3 tests/solver/examples.py --check    compare instead
@@ -13,7 +13,7 @@ sys.dont_write_bytecode = True
 sys.path.insert(0, str(Path(__file__).resolve().parent.parent / "reference"))
 
 import samples                                                                  # noqa: E402
-from aspda import aspif_text, encoded_program, translation                      # noqa: E402
+from aspda import aspif_text, encoded_program, expanded, translation            # noqa: E402
 
 EXAMPLES = Path(__file__).resolve().parent.parent.parent / "examples"
 
@@ -21,8 +21,9 @@ EXAMPLES = Path(__file__).resolve().parent.parent.parent / "examples"
 def files():
     """The bytes of each file."""
     made = {}
-    for name, rules in (("m1", samples.M1), ("m3", samples.M3)):
-        made[f"{name}.aspda"] = encoded_program(rules)
+    for name, items in (("m1", samples.M1), ("m3", samples.M3), ("m3_sheets", samples.M3_SHEETS)):
+        rules = expanded(items)
+        made[f"{name}.aspda"] = encoded_program(items)
         made[f"{name}.plain"] = encoded_program(translation(rules))
         made[f"{name}.aspif"] = aspif_text(translation(rules))
     return made

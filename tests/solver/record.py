@@ -22,7 +22,8 @@ sys.path.insert(0, str(Path(__file__).resolve().parent.parent / "reference"))
 import recorded                                                                 # noqa: E402
 import solve                                                                    # noqa: E402
 import sources                                                                  # noqa: E402
-from aspda import answer_sets, encoded_program, extension, translation          # noqa: E402
+from aspda import (answer_sets, encoded_program, expanded, extension,           # noqa: E402
+                   translation)
 from samples import literals_of                                                 # noqa: E402
 
 RECORDED = Path(__file__).resolve().parent / "recorded.txt"
@@ -35,9 +36,10 @@ class Mismatch(Exception):
     """The answer sets of a source and of its translation do not match."""
 
 
-def made_case(name, rules):
+def made_case(name, items):
+    rules = expanded(items)
     plain = encoded_program(translation(rules))
-    case = recorded.Case(name, encoded_program(rules), answer_sets(rules, literals_of(rules)),
+    case = recorded.Case(name, encoded_program(items), answer_sets(rules, literals_of(rules)),
                          plain, list(solve.answer_sets(plain)))
     require_match(rules, case)
     return case
@@ -51,9 +53,9 @@ def require_match(rules, case):
 
 
 def made_cases(options, tally):
-    for number, name, rules in sources.named_sources(options.seed, options.count):
-        case = made_case(f"{number} {name}", rules)
-        tally.update(sources.traits_of(rules))
+    for number, name, items in sources.named_sources(options.seed, options.count):
+        case = made_case(f"{number} {name}", items)
+        tally.update([sources.SHEETS] if name == sources.SHEETS else sources.traits_of(items))
         tally[answer_set_count(case)] += 1
         yield case
 
@@ -67,7 +69,8 @@ def answer_set_count(case):
 
 def remarks(options):
     return ["Sources and translations with their answer sets; the format is in recorded.py.",
-            f"{options.count} cases, seed {options.seed}, {solve.version()} with"
+            f"{options.count} cases and {options.count // sources.SHARE_WITH_SHEETS} with sheets, seed"
+            f" {options.seed}, {solve.version()} with"
             f" {' '.join(solve.SOUND_OPTIONS)}. Made by record.py."]
 
 
@@ -77,7 +80,7 @@ def show(tally):
 
 
 def rare_traits(tally):
-    return [name for name in sources.TRAITS if tally[name] < LEAST_OF_A_TRAIT]
+    return [name for name in [*sources.TRAITS, sources.SHEETS] if tally[name] < LEAST_OF_A_TRAIT]
 
 
 def first_difference(text):
@@ -96,7 +99,7 @@ def run(options):
         return 1
     tally = Counter()
     text = recorded.file_text(remarks(options), made_cases(options, tally))
-    print(f"record: {options.count} cases match, {solve.version()}")
+    print(f"record: {options.count} cases match, and {tally[sources.SHEETS]} with sheets, {solve.version()}")
     show(tally)
     if options.count >= DEFAULT_COUNT and rare_traits(tally):
         print(f"record: too few cases with {', '.join(rare_traits(tally))}")

@@ -1,4 +1,5 @@
-"""Random small sources, each with a named trait, for the comparison with a solver.
+"""Random small sources, each with a named trait or with preference sheets, for the comparison with a
+solver.
 
 Sources are drawn freely and kept if they have the trait and few enough literals to try all sets
 of them. Atoms and tags are small and alike half of the time, so that a mix-up of the two shows.
@@ -7,10 +8,10 @@ of them. Atoms and tags are small and alike half of the time, so that a mix-up o
 import random
 from typing import NamedTuple
 
-from aspda import (ATOMS, SOURCE, TAGS, answer_sets, atom, defeasible, defeated, encoded_program,
-                   is_model, negated, opposite, proper_subsets, quotient, read_rules, strict,
-                   subsets)
-from samples import defeat_marks, literals_of
+from aspda import (ATOMS, SOURCE, TAGS, answer_sets, appended_rules, atom, defeasible, defeated,
+                   encoded_program, expanded, is_model, negated, opposite, proper_subsets, quotient,
+                   read_items, strict, subsets)
+from samples import defeat_marks, interleaved, literals_of, random_sheets
 
 MOST_LITERALS = 10
 MOST_OPTIONS = 4
@@ -236,13 +237,35 @@ def source_with(rng, trait, most=MOST_LITERALS):
     while True:
         rules = random_source(rng)
         if len(literals_of(rules)) <= most and trait(rules):
-            assert read_rules(SOURCE, encoded_program(rules)) == rules
+            assert read_items(SOURCE, encoded_program(rules)) == rules
             return rules
 
 
+SHEETS = "sheets"
+SHARE_WITH_SHEETS = 5       # to so many other sources comes one with sheets
+
+
+def source_with_sheets(rng, most=MOST_LITERALS):
+    """A random source whose sheets append rules that matter: without them its answer sets are others."""
+    while True:
+        words = random_words(rng)
+        rules = [random_defeasible_rule(rng, words, lambda: any_literal(rng, words))
+                 for _ in range(rng.randint(2, 4))]
+        rules += [strict([option]) for option in rng.sample(rules[0].heads, rng.choice((0, 0, 1)))]
+        sheets = random_sheets(rng, rules, rng.randint(1, 3), rng.randint(1, 4))
+        items = interleaved(rng, rules, sheets)
+        literals = literals_of(expanded(items))
+        if (appended_rules(items) and len(literals) <= most
+                and answer_sets(expanded(items), literals) != answer_sets(rules, literals)):
+            assert read_items(SOURCE, encoded_program(items)) == items
+            return items
+
+
 def named_sources(seed, count):
-    """So many sources, the traits in turn, each drawn from a seed of its own."""
+    """So many sources, the traits in turn, each drawn from a seed of its own; more with sheets."""
     names = list(TRAITS)
     for number in range(1, count + 1):
         name = names[(number - 1) % len(names)]
         yield number, name, source_with(random.Random(f"{seed} {number}"), TRAITS[name])
+    for number in range(count + 1, count + 1 + count // SHARE_WITH_SHEETS):
+        yield number, SHEETS, source_with_sheets(random.Random(f"{seed} {number}"))

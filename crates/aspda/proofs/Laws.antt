@@ -1,3 +1,4 @@
+pub mod Fit
 pub mod Words
 pub mod Verdicts
 pub mod Lengths

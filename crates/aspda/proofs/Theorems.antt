@@ -1,5 +1,5 @@
 -- The claims, each from laws. Assumes nothing.
-use Prim.Native.Nat.{ℕ, _+_, _*_, _≤_, _<_}
+use Prim.Native.Nat.{ℕ, _+_, _*_, _^_, _≤_, _<_}
 use native.Mathlib.Omega.{arith}
 use native.Mathlib.Nat.{zero-add}
 use mathlib.Core.Path.{_≡_, refl, sym, _∙_, ap}
@@ -19,13 +19,17 @@ use Rattle.literal.specs.Limits.{source, plain}
 use Rattle.literal.proofs.Laws.Literal.{Fits, TwoBytes}
 use Rattle.semantics.specs.Set.{eachOf, setOf}
 use Rattle.semantics.specs.Rule.{Program}
-use Rattle.semantics.specs.Extension.{sourceKind}
+use Rattle.semantics.specs.Expansion.{sameDefeat, defeatRule, heads, madeWay, madePair, madeBy, made, unlessBefore, appended}
+use Rattle.semantics.specs.Item.{Item, rules, overrides, oppositions, appendedBy, expanded}
+use Rattle.semantics.specs.Extension.{offers, sourceKind}
 use Rattle.semantics.specs.Translation.{translation, translationLength}
 use Rattle.semantics.specs.Match.{FormMatch}
-use Rattle.semantics.specs.Form.{keepsRules}
+use Rattle.semantics.specs.Form.{mostAppended, TakesDefeats}
 use Rattle.semantics.specs.Meaning.{AnswerSet}
 use Rattle.semantics.specs.Verdict.{Finding, clash, broken, smaller, answerSet, finding}
-use Rattle.semantics.proofs.Laws.Length.{programLength, length-translation, count-translation, thirteenfold}
+use Rattle.semantics.proofs.Laws.Length.{length-translation, count-translation, thirteenfold}
+use Rattle.semantics.proofs.Laws.Expansion.{kept-items, length-appended, expanded-bytes, expanded-translation}
+use Rattle.semantics.proofs.Laws.Expanded.{Expanded, expanded-each, expanded-few}
 use Rattle.semantics.proofs.Laws.Tests.{Each, all-mem, all-intro}
 use Rattle.semantics.proofs.Laws.Agree.{Speaks}
 use Rattle.semantics.proofs.Laws.Wider.{source-wider}
@@ -38,12 +42,11 @@ use Rattle.record.specs.declared.Written.the-variants.{Length}
 use Rattle.record.specs.Refusal.{refusal}
 use Rattle.record.specs.Result.{Result, accepted, andThen, refuseIf, Outcome, delivered}
 use Rattle.record.specs.Layout.{encodedProgram}
-use Rattle.record.specs.Reading.{parsed}
+use Rattle.record.specs.Reading.{items, parsed}
 use Rattle.record.proofs.Laws.Layout.{length-encoded-program}
-use Rattle.record.proofs.Laws.Bounds.{parsed-short}
-use Rattle.record.proofs.Laws.Reading.{parsed-sound, parsed-complete, reading-iff}
-use Rattle.record.proofs.Laws.Fit.{program-fits}
-use Rattle.record.proofs.Laws.Keeps.{keeps-program}
+use Rattle.record.proofs.Laws.Reading.{items-iff, items-read, items-parsed, parsed-complete, reading-iff}
+use Rattle.record.proofs.Laws.Meant.{items-counted, expanded-within, parsed-expanded, plain-unsheeted}
+use Rattle.record.proofs.Laws.Keeps.{kept-file, keeps-program}
 use Rattle.record.proofs.Laws.Result.{accepted-and-then}
 use Rattle.record.proofs.Laws.Delivered.{delivered-fits}
 use Rattle.record_show.proofs.Laws.Record.{shown-behind, shown-record, shown-nothing}
@@ -69,19 +72,32 @@ use Rattle.check_set.specs.declared.Check.the-variants.{Found}
 use Rattle.check_set.specs.Verdict.{verdictOf, witness}
 use Rattle.check_set.specs.Check.{found, Checked, checkedOf, checked}
 use Rattle.aspda_word.specs.Words.{ToldWritten}
-use Rattle.aspda.specs.Claims.{Reading, Quotients, Quotient, Extending, Checks, Checking, Shows, Showing, Translates, Translating, Exporting, Tells, Words}
-use Rattle.aspda.proofs.Laws.Lengths.{rules-kept, quotient-no-longer, extension-at-most, restriction-no-longer}
+use Rattle.aspda.specs.Example.{exampleOptions, exampleSheets, exampleDefeats}
+use Rattle.aspda.specs.Claims.{Means, Reading, Expanding, Quotients, Quotient, Extending, Checks, Checking, Shows, Showing, Translates, Translating, Exporting, Tells, Words}
+use Rattle.aspda.proofs.Laws.Lengths.{program-wide, quotient-no-longer, quotient-unsheeted, extension-at-most, restriction-no-longer}
+use Rattle.aspda.proofs.Laws.Fit.{rules-fit}
 use Rattle.aspda.proofs.Laws.Exports.{names-of-text, text-bound, text-match, text-exports, exported-told}
 use Rattle.aspda.proofs.Laws.Told.{bounded, bounded-then, told-delivered, told-read, told-show, told-checked, told-quotiented, told-extended, told-restricted}
+
+means : (F : Limits) → Means F
+means F = record { program = items-parsed F; count = items-counted F }
 
 pub reading : Reading
 reading =
     record {
-      reads-source = reading-iff source;
-      reads-plain = reading-iff plain;
+      reads-source = items-iff source;
+      reads-plain = items-iff plain;
+      means-source = means source;
+      means-plain = means plain;
+      reads-plain-program = reading-iff plain plain-unsheeted;
       reads-source-set = set-reading-iff source;
       reads-plain-set = set-reading-iff plain;
     }
+
+pub expanding : Expanding
+unfolding expanded appendedBy appended exampleOptions exampleSheets exampleDefeats rules overrides oppositions heads offers made madeBy madePair madeWay
+    unlessBefore sameDefeat defeatRule
+expanding = record { written = λ is. refl; few = length-appended; example = refl }
 
 -- of a program and a set that are read, what is made of both is delivered
 made-fits : (F : Limits) (make : Program → List Literal → List ℕ) (b k : List ℕ) (p : Program) (ls : List Literal)
@@ -102,12 +118,17 @@ unfolding quotiented quotientBytes withInputs
 quotients F w =
     record {
       writes = made-fits F (λ p ls. encodedProgram (quotientProgram p ls));
-      reads-back = λ b p ls bytes e. quotient-read F plain w p ls (parsed-sound F b p bytes e .1);
-      no-longer = λ b p ls bytes e. quotient-no-longer F b p bytes e ls;
+      reads-back = λ b p ls bytes e. quotient-read F plain w p ls (parsed-expanded F b p bytes e) (program-wide F b p bytes e);
+      no-longer = λ b is ls bytes e. quotient-no-longer F b is bytes e ls;
     }
 
 pub quotient : Quotient
-quotient = record { quotient-source = quotients source source-within; quotient-plain = quotients plain plain-within }
+quotient =
+    record {
+      quotient-source = quotients source source-within;
+      quotient-plain = quotients plain plain-within;
+      plain-no-longer = λ b p ls bytes e. quotient-unsheeted plain plain-unsheeted b p bytes e ls;
+    }
 
 -- a source has kinds 0 to 3
 source-kinds : mostKind (source .kinds) ≤ 3
@@ -138,9 +159,21 @@ plain-fields : TwoBytes plain
 unfolding plain
 plain-fields = record { atoms = omega arith; tags = omega arith; numbers = λ kinds. omega arith }
 
--- the literals that a source speaks of fit two bytes
+-- a source takes appended rules
+source-takes : TakesDefeats source
+source-takes = extendable-source .appended
+
+-- the literals that a source speaks of fit two bytes, and two bytes count its rules
+source-fields : TwoBytes source
+unfolding source mostKind
+source-fields = record { atoms = omega arith; tags = omega arith; numbers = λ kinds. omega arith }
+
 read-fits : (b : List ℕ) (p : Program) → Bytes b → parsed source b ≡ accepted p → Each (Speaks Fits) p
-read-fits b p bytes read = program-fits b p bytes (parsed-sound source b p bytes read .0)
+read-fits b p bytes read = rules-fit source source-fields p (expanded-each source p (parsed-expanded source b p bytes read) source-takes)
+
+read-count : (b : List ℕ) (p : Program) → Bytes b → parsed source b ≡ accepted p → length p < 65536
+unfolding source
+read-count b p bytes read = omega (arith, expanded-few source p (parsed-expanded source b p bytes read))
 
 pub extending : Extending
 unfolding extended extensionBytes withInputs restricted restrictionBytes source
@@ -149,9 +182,9 @@ extending =
       writes = made-fits source (λ p ls. encodedSet (extensionList p ls));
       reads-back = λ b k p ls bytes chars read held.
           set-read-back plain plain-fields (plain .literals) (extensionList p ls)
-          (extension-keeps source extendable-source p (rules-kept source b p bytes read) (read-fits b p bytes read) plain plain-covers source-kinds
+          (extension-keeps source extendable-source p (parsed-expanded source b p bytes read) (read-fits b p bytes read) plain plain-covers source-kinds
           plain-literals ls (set-kept k ls chars held));
-      extends = λ b p ls bytes read. extension-list p (omega (arith, keeps-count source p (rules-kept source b p bytes read))) (read-fits b p bytes read) ls;
+      extends = λ b p ls bytes read. extension-list p (read-count b p bytes read) (read-fits b p bytes read) ls;
       ascends = λ k p ls bytes read.
           extension-ascending-form source extendable-source source-kinds p ls (set-taken k ls bytes read)
           (keeps-set-ascending source (source .literals) ls (set-kept k ls bytes read));
@@ -229,11 +262,27 @@ plain-room =
       nafs = omega arith;
       rules = omega arith;
       bytes = omega arith;
+      appended = source-takes;
     }
 
+-- the sum is at most thirteen times the bytes that are written, and the appended rules as they are
+translation-bound : (b : List ℕ) (is : List Item) → Bytes b → items source b ≡ accepted is
+    → translationLength (expanded is) ≤ 13 * length b + 17 * length (appendedBy is)
+unfolding source mostKind
+translation-bound b is bytes read =
+    let kept = kept-file source is (items-read source b is bytes read .1) .items in
+    omega (
+      arith,
+      expanded-translation source (omega arith) is kept,
+      thirteenfold source (omega arith) (rules is) (kept-items source is kept .rules-each),
+      expanded-bytes source (omega arith) is kept,
+      length-encoded-program (expanded is),
+      expanded-within source b is bytes read,
+    )
+
 module _ (b : List ℕ) (p : Program) (bytes : Bytes b) (read : parsed source b ≡ accepted p) where
-  kept : T (keepsRules source p)
-  kept = rules-kept source b p bytes read
+  kept : Expanded source p
+  kept = parsed-expanded source b p bytes read
 
   result-length : length (encodedProgram (translation p)) ≡ translationLength p
   result-length = length-encoded-program (translation p) ∙ length-translation p
@@ -245,15 +294,8 @@ module _ (b : List ℕ) (p : Program) (bytes : Bytes b) (read : parsed source b 
       (keeps-program plain (translation p) (keeps-count plain (translation p) rules) (keeps-each plain (translation p) rules)
       (omega (arith, result-length, translation-short source plain plain-room p kept)))
 
-  source-length : length b ≡ programLength p
-  source-length = ap length (parsed-sound source b p bytes read .0) ∙ length-encoded-program p
-
-  at-most-thirteenfold : translationLength p ≤ 13 * length b
-  unfolding source
-  at-most-thirteenfold = omega (arith, source-length, thirteenfold source (omega arith) p kept)
-
   match : FormMatch source plain p
-  match = form-match source plain source-kinds plain-covers p kept
+  match = form-match source plain source-kinds source-takes plain-covers p kept
 
   module _ (out : List ℕ) (fits : translationLength p ≤ length out) where
     written : translated source b out ≡ record { answer = Length (translationLength p); buffer = write out 0 (encodedProgram (translation p)) }
@@ -288,7 +330,8 @@ pub translating : Translating
 translating =
     record {
       translates = translates;
-      thirteenfold = at-most-thirteenfold;
+      thirteenfold = λ b is bytes read. omega (arith, translation-bound b is bytes read);
+      bound = translation-bound;
       rules = λ b p read. count-translation p;
       matches = match;
     }
@@ -296,7 +339,7 @@ translating =
 pub exporting : Exporting
 exporting = record { exports = text-exports; bound = text-bound; matches = text-match; names-said = names-of-text }
 
-tells : (F : Limits) → F .length < 2147483648 → F .rules < 4294967296 → 4 + 5 * F .checked < 4294967296 → Tells F
+tells : (F : Limits) → F .length + 17 * mostAppended F < 2147483648 → F .rules + mostAppended F < 4294967296 → 4 + 5 * F .checked < 4294967296 → Tells F
 tells F long rules sets =
     record {
       reads = λ b bytes. told-read F long b bytes (omega arith);
@@ -305,13 +348,17 @@ tells F long rules sets =
       checks = λ b k out bytes chars. told-checked F long b bytes rules sets k out chars;
     }
 
+plain-small : plain .length < 2 ^ 63
+unfolding plain
+plain-small = omega arith
+
 translated-told : (b out : List ℕ) → Bytes b → ToldWritten (translated source b out .answer)
 unfolding translated translatedBytes source
 translated-told b out bytes =
-    told-delivered (13 * source .length) (omega arith) (translatedBytes source b) out
-    (bounded-then (13 * source .length) (parsed source b) (λ q. accepted (encodedProgram (translation q))) (λ p e.
-    bounded (13 * source .length) (encodedProgram (translation p))
-    (omega (arith, result-length b p bytes e, at-most-thirteenfold b p bytes e, parsed-short source b p e))))
+    told-delivered (plain .length) plain-small (translatedBytes source b) out
+    (bounded-then (plain .length) (parsed source b) (λ q. accepted (encodedProgram (translation q))) (λ p e.
+    bounded (plain .length) (encodedProgram (translation p))
+    (omega (arith, result-length b p bytes e, translation-short source plain plain-room p (parsed-expanded source b p bytes e)))))
 
 pub words : Words
 unfolding source plain

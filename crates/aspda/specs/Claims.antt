@@ -1,6 +1,6 @@
 -- What is to be believed of the library, as types in the order of its demands. `proofs/Theorems.antt` proves each.
 -- The functions' contracts say that they answer what the definitions give, so these claims are about the functions.
--- In order: reading; quotients; extension and restriction; the check; show; translating; exporting; words.
+-- In order: reading; what sheets append; quotients; extension and restriction; the check; show; translating; exporting; words.
 -- Assumes nothing.
 use Prim.Native.Nat.{ℕ, _+_, _*_, _≤_}
 use mathlib.Core.Path.{_≡_}
@@ -16,6 +16,8 @@ use Rattle.literal.specs.declared.Literal.{Literal}
 use Rattle.literal.specs.Limits.{source, plain}
 use Rattle.semantics.specs.Set.{setOf}
 use Rattle.semantics.specs.Rule.{Rule, Program}
+use Rattle.semantics.specs.Expansion.{appended}
+use Rattle.semantics.specs.Item.{Item, rule, rules, overrides, oppositions, appendedBy, expanded}
 use Rattle.semantics.specs.Extension.{extension, restriction}
 use Rattle.semantics.specs.Translation.{translation, translationLength, translatedCounts}
 use Rattle.semantics.specs.Match.{FormMatch}
@@ -25,8 +27,9 @@ use Rattle.semantics.specs.Findings.{FirstOpposed, BrokenAt, SmallerBy}
 use Rattle.record.specs.declared.Refusal.{Refusal}
 use Rattle.record.specs.declared.Written.the-variants.{Length}
 use Rattle.record.specs.Result.{accepted}
-use Rattle.record.specs.Layout.{encodedRule, encodedRules, encodedProgram, keeps}
-use Rattle.record.specs.Reading.{parsed, reading}
+use Rattle.record.specs.declared.Reading.the-variants.{Count}
+use Rattle.record.specs.Layout.{encodedRule, encodedProgram, keeps, encodedItems, encodedFile, keepsFile}
+use Rattle.record.specs.Reading.{items, parsed, reading}
 use Rattle.record_show.specs.declared.Extent.{Extent}
 use Rattle.record_show.specs.declared.Shown.the-variants.{At, Refused}
 use Rattle.record_show.specs.Show.{shown, shownExtent}
@@ -47,10 +50,20 @@ use Rattle.check_set.specs.declared.Check.the-variants.{Found}
 use Rattle.check_set.specs.Verdict.{verdictOf, witness}
 use Rattle.check_set.specs.Check.{checked}
 use Rattle.aspda_word.specs.Words.{ToldReading, ToldWritten, ToldShown, ToldCheck}
+use Rattle.aspda.specs.Example.{exampleOptions, exampleSheets, exampleDefeats}
 
--- demand 1, accepted half: reading in a form accepts exactly the encodings of programs within the form's limits
+-- demand 1, accepted half: reading in a form accepts exactly the encodings of items within the form's limits
 abbrev pub Reads : Limits → Type 0
-Reads F = (b : List ℕ) (p : Program) → Bytes b → (parsed F b ≡ accepted p) ↔ ((b ≡ encodedProgram p) × T (keeps F p))
+Reads F = (b : List ℕ) (is : List Item) → Bytes b → (items F b ≡ accepted is) ↔ ((b ≡ encodedFile is) × T (keepsFile F is))
+
+-- of items that are read, the program that every operation means is the expanded one, and reading counts the written rules
+pub record Means (F : Limits) : Type 0 where
+  pub program : (b : List ℕ) (is : List Item) → items F b ≡ accepted is → parsed F b ≡ accepted (expanded is)
+  pub count : (b : List ℕ) (is : List Item) → items F b ≡ accepted is → reading F b ≡ Count (length (rules is))
+
+-- where a form has no sheets, it accepts exactly the encodings of programs within its limits
+abbrev pub ReadsProgram : Limits → Type 0
+ReadsProgram F = (b : List ℕ) (p : Program) → Bytes b → (parsed F b ≡ accepted p) ↔ ((b ≡ encodedProgram p) × T (keeps F p))
 
 -- the same of sets: a set's record is read as the ascending list that it holds, of literals of the form and of no more than
 -- the operation takes
@@ -60,8 +73,20 @@ ReadsSet F = (most : ℕ) (k : List ℕ) (ls : List Literal) → Bytes k → (pa
 pub record Reading : Type 0 where
   pub reads-source : Reads source
   pub reads-plain : Reads plain
+  pub means-source : Means source
+  pub means-plain : Means plain
+  pub reads-plain-program : ReadsProgram plain
   pub reads-source-set : ReadsSet source
   pub reads-plain-set : ReadsSet plain
+
+-- 02's Ask 2: what the sheets of a file append to its written rules
+pub record Expanding : Type 0 where
+  -- the written rules stay as they are, in their places
+  pub written : (is : List Item) → expanded is ≡ rules is ++ appended (rules is) (overrides is) (oppositions is)
+  -- at most two rules for each override with each opposition, and none for a file without one of the two
+  pub few : (is : List Item) → length (appendedBy is) ≤ 2 * (length (overrides is) * length (oppositions is))
+  -- 000's Example 1, written with sheets, means M3's rules in M3's order
+  pub example : expanded (map rule exampleOptions ++ exampleSheets) ≡ exampleOptions ++ exampleDefeats
 
 -- demand 2, quotients in a form: of a program and a set that are read, the quotient is written where there is room, and
 -- what is written is read in plain form as the quotient
@@ -74,12 +99,16 @@ pub record Quotients (F : Limits) : Type 0 where
       }
   pub reads-back : (b : List ℕ) (p : Program) (ls : List Literal) → Bytes b → parsed F b ≡ accepted p
       → parsed plain (encodedProgram (quotientProgram p ls)) ≡ accepted (quotientProgram p ls)
-  -- it is no longer than its program
-  pub no-longer : (b : List ℕ) (p : Program) (ls : List Literal) → Bytes b → parsed F b ≡ accepted p → length (encodedProgram (quotientProgram p ls)) ≤ length b
+  -- it is no longer than its file, with 17 bytes for each rule that is appended
+  pub no-longer : (b : List ℕ) (is : List Item) (ls : List Literal) → Bytes b → items F b ≡ accepted is
+      → length (encodedProgram (quotientProgram (expanded is) ls)) ≤ length b + 17 * length (appendedBy is)
 
 pub record Quotient : Type 0 where
   pub quotient-source : Quotients source
   pub quotient-plain : Quotients plain
+  -- that of a plain program is no longer than its program
+  pub plain-no-longer : (b : List ℕ) (p : Program) (ls : List Literal) → Bytes b → parsed plain b ≡ accepted p
+      → length (encodedProgram (quotientProgram p ls)) ≤ length b
 
 -- demand 2, of a source and a source set that are read: the extension's list is written where there is room, and what is written
 -- is read in plain form as that list, which is the extension, ascending; its restriction is the set that went in. Of a plain
@@ -126,14 +155,14 @@ pub record Checking : Type 0 where
   pub shows-broken : (p : Program) (ls : List Literal) (n : ℕ) → (finding p ls ≡ broken n) ↔ BrokenAt p ls n
   pub shows-smaller : (p : Program) (ls s : List Literal) → (finding p ls ≡ smaller s) ↔ SmallerBy p ls s
 
--- demand 2, show in a form, of a program that is read and the number of one of its rules, r
+-- demand 2, show in a form, of a file that is read and the number of one of its written rules, r
 pub record Shows (F : Limits) : Type 0 where
-  -- its record lies behind those of the rules before it
-  pub finds : (b : List ℕ) (before : Program) (r : Rule) (after : Program) → Bytes b → parsed F b ≡ accepted (before ++ (r ∷ after))
-      → shown F b (length before + 1) ≡ At (record { start = length (encodedRules before); size = length (encodedRule r) })
+  -- its record lies behind those of the items before it
+  pub finds : (b : List ℕ) (before : List Item) (r : Rule) (after : List Item) → Bytes b → items F b ≡ accepted (before ++ (rule r ∷ after))
+      → shown F b (length (rules before) + 1) ≡ At (record { start = length (encodedItems before); size = length (encodedRule r) })
   -- the part that is handed back is that record
-  pub hands-back : (b : List ℕ) (before : Program) (r : Rule) (after : Program) → Bytes b → parsed F b ≡ accepted (before ++ (r ∷ after))
-      → (e : Extent) → shown F b (length before + 1) ≡ At e → take (e .size) (drop (e .start) b) ≡ encodedRule r
+  pub hands-back : (b : List ℕ) (before : List Item) (r : Rule) (after : List Item) → Bytes b → items F b ≡ accepted (before ++ (rule r ∷ after))
+      → (e : Extent) → shown F b (length (rules before) + 1) ≡ At e → take (e .size) (drop (e .start) b) ≡ encodedRule r
   -- a refusal hands back the empty part at the slice's start
   pub hands-back-nothing : (b : List ℕ) (n : ℕ) (x : Refusal) → shown F b n ≡ Refused x → shownExtent (shown F b n) ≡ record { start = 0; size = 0 }
 
@@ -152,9 +181,13 @@ pub record Translates (b : List ℕ) (p : Program) (out : List ℕ) : Type 0 whe
 pub record Translating : Type 0 where
   -- a buffer as long as the sum is long enough
   pub translates : (b : List ℕ) (p : Program) → Bytes b → parsed source b ≡ accepted p → (out : List ℕ) → translationLength p ≤ length out → Translates b p out
-  -- the sum is at most thirteen times the source's bytes
-  pub thirteenfold : (b : List ℕ) (p : Program) → Bytes b → parsed source b ≡ accepted p → translationLength p ≤ 13 * length b
-  -- 3k + 2 rules for each defeasible rule with k options, one for each strict rule
+  -- the sum is at most thirteen times the source's length: its written bytes, and 17 for each rule that is appended
+  pub thirteenfold : (b : List ℕ) (is : List Item) → Bytes b → items source b ≡ accepted is
+      → translationLength (expanded is) ≤ 13 * (length b + 17 * length (appendedBy is))
+  -- closer, for callers who size a buffer: an appended rule is its own translation
+  pub bound : (b : List ℕ) (is : List Item) → Bytes b → items source b ≡ accepted is
+      → translationLength (expanded is) ≤ 13 * length b + 17 * length (appendedBy is)
+  -- 3k + 2 rules for each defeasible rule with k options, one for each strict rule, the appended ones too
   pub rules : (b : List ℕ) (p : Program) → parsed source b ≡ accepted p → length (translation p) ≡ translatedCounts p
   -- the answer sets match one to one, for every set of source literals and every set of plain literals
   pub matches : (b : List ℕ) (p : Program) → Bytes b → parsed source b ≡ accepted p → FormMatch source plain p

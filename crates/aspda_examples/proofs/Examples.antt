@@ -11,14 +11,16 @@ use Rattle.literal.specs.Order.{bytesBefore, key, before, inserted, sorted}
 use Rattle.semantics.specs.Rule.{head, positive, naf}
 use Rattle.semantics.specs.Meaning.{undefeated, unlessEmpty, remainder, withRemainder, quotient, holds, satisfied, models}
 use Rattle.semantics.specs.Translation.{choice, allDefeated, holdsIfDerived, derivedIfHolds, neverBoth, option, options, translatedRule, translationFrom, translation}
-use Rattle.semantics.specs.Extension.{defeatedRule}
+use Rattle.semantics.specs.Extension.{offers, defeatedRule}
+use Rattle.semantics.specs.Expansion.{sameDefeat, defeatRule, heads, madeWay, madePair, madeBy, made, unlessBefore, appended}
+use Rattle.semantics.specs.Item.{rules, overrides, oppositions, appendedBy, expanded}
 use Rattle.semantics.specs.Form.{keepsCounts}
 use Rattle.semantics.specs.Verdict.{opposed, clashFrom, brokenFrom, orElse, withLiteral, firstSubset, smallerModel, finding}
 use Rattle.semantics.proofs.Laws.Within.{exactly, exactly-within}
 use Rattle.record.specs.Refusal.{shifted, encodedRefusal}
 use Rattle.record.specs.Result.{andThen, refuseIf, delivered}
 use Rattle.record.specs.Layout.{encodedLiterals, ruleRecord, encodedRule, encodedRules, encodedEnd, encodedProgram}
-use Rattle.record.specs.Reading.{literalsAt, optionsOf, defeasibleRule, ruleOf, tagRight, bodyAt, ruleAt, endAt, marked, pickMark, markAt, markedRecord, recordAt, rulesFrom, parsed}
+use Rattle.record.specs.Reading.{literalsAt, optionsOf, defeasibleRule, ruleOf, tagRight, bodyAt, ruleAt, overrideAt, signedOf, signedAt, oppositionOf, oppositionAt, endAt, marked, pickMark, markAt, markedRecord, recordAt, holding, itemsFrom, items, parsed}
 use Rattle.set.specs.Layout.{encodedSet}
 use Rattle.set.specs.Reading.{membersAt, setShape, parsedSet}
 use Rattle.inputs.specs.Inputs.{withInputs}
@@ -47,7 +49,8 @@ unfolding Says examples write source plain kind tagField atomField encoded negat
     allDefeated holdsIfDerived derivedIfHolds neverBoth option options translatedRule translationFrom translation defeatedRule keepsCounts
     opposed clashFrom brokenFrom orElse withLiteral firstSubset smallerModel finding shifted encodedRefusal andThen refuseIf delivered
     encodedLiterals ruleRecord encodedRule encodedRules encodedEnd encodedProgram literalsAt optionsOf defeasibleRule ruleOf tagRight bodyAt
-    ruleAt endAt marked pickMark markAt markedRecord recordAt rulesFrom parsed encodedSet membersAt setShape parsedSet translatedBytes
+    ruleAt overrideAt signedOf signedAt oppositionOf oppositionAt endAt marked pickMark markAt markedRecord recordAt holding itemsFrom items parsed
+    rules overrides oppositions appendedBy expanded heads made madeBy madePair madeWay unlessBefore sameDefeat defeatRule appended offers encodedSet membersAt setShape parsedSet translatedBytes
     translated inputSize printed filtered derivedMarks ruleMarks marksFrom inserted sorted extensionList withInputs extensionBytes extended
     found verdictOf witness checkedOf checked head positive naf decimalWith decimal ruleLiterals occurring literals numberOf numbered
     neverBothNumbers constraintsOf constraintsFrom constraints groundWith ground namesOf namesWith names field fields bodyText ruleLine

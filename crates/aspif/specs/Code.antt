@@ -70,9 +70,10 @@ outcomeIn bits p out = delivered (accepted (textIn bits p)) out
 unfoldable pub outcomeOf : Program → List ℕ → Outcome
 outcomeOf p out = delivered (accepted (aspifText p)) out
 
--- each program within these limits has strict rules alone and is numberable, and its numbers, counts and atoms have few figures
+-- each program within these limits has strict rules alone and no sheets, and is numberable, and its numbers, counts and atoms have few figures
 pub record Exportable (F : Limits) : Type 0 where
   pub strict : F .defeasible ≡ false
+  pub unsheeted : F .sheets ≡ 0
   pub placeable : Placeable F
   pub short : F .length < 499991
   pub heads : F .heads < 100

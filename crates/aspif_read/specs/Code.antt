@@ -22,8 +22,11 @@ pub record RuleMarked (t d e : List ℕ) (size : ℕ) : Type 0 where
   pub whole : size ≡ recordSize t
   pub gained : Gained d e (placesAt t 7 (literalCount t))
 
--- words d became e so where the record that starts t is a rule's, and stayed where it is the end; of a refusal nothing is said
+-- words d became e so where the record that starts t is a rule's, and stayed where it is a sheet's or the end; of a refusal nothing is
+-- said
 abbrev pub Marked : List ℕ → List ℕ → List ℕ → Step → Type 0
 Marked t d e (Step.Rule size) = RuleMarked t d e size
+Marked t d e (Step.Override size) = e ≡ d
+Marked t d e (Step.Opposition size) = e ≡ d
 Marked t d e Step.End = e ≡ d
 Marked t d e (Step.Refused x) = Unit

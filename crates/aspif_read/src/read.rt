@@ -1,16 +1,19 @@
-// A program without defeasible rules read, the places of its literals marked on the way: what `record_read` reads, in one pass with the marks.
+// A program without defeasible rules and without sheets read, the places of its literals marked on the way: what `record_read` reads, in one pass with the marks.
 
 use aspif_number::marks::count_literals;
 use aspif_number::marks::mark_place;
 use aspif_number::place::place_at;
 use literal::Limits;
 use literal_decode::valid::is_literal;
+use record::Found;
+use record::Held;
 use record::Reading;
 use record::Reason;
 use record::Refusal;
 use record::Run;
 use record::Step;
 use record_read::Front;
+use record_read::step::hold;
 use record_read::step::read_front;
 use record_read::step::refuse;
 ghost use Prim.Native.Nat.{ℕ, _+_, _*_, _≤_};
@@ -73,8 +76,8 @@ fn mark_body(lim: Limits, t: &[u8], bits: &mut [u64], counts: &mut [u32]) -> Ste
     Step::Rule(size)
 }
 
-// One record, at the part's start, where `held` rules came before; a rule's literals are marked.
-fn mark_record(lim: Limits, t: &[u8], held: usize, bits: &mut [u64], counts: &mut [u32]) -> Step
+// One record, at the part's start, where `held` came before; a rule's literals are marked.
+fn mark_record(lim: Limits, t: &[u8], held: Held, bits: &mut [u64], counts: &mut [u32]) -> Step
     requires { ⌜ Placeable lim ⌝ }
     requires { ⌜ lim .defeasible ≡ false ⌝ }
     requires { ⌜ length (now bits) ≡ words ⌝ }
@@ -94,6 +97,7 @@ fn mark_record(lim: Limits, t: &[u8], held: usize, bits: &mut [u64], counts: &mu
 pub fn read_marking(lim: Limits, s: &[u8], bits: &mut [u64], counts: &mut [u32]) -> Reading
     requires { ⌜ Placeable lim ⌝ }
     requires { ⌜ lim .defeasible ≡ false ⌝ }
+    requires { ⌜ lim .sheets ≡ 0 ⌝ }
     requires { ⌜ length (now bits) ≡ words ⌝ }
     requires { ⌜ Empty (now bits) ⌝ }
     requires { ⌜ Tallied (now bits) (now counts) ⌝ }
@@ -108,16 +112,21 @@ pub fn read_marking(lim: Limits, s: &[u8], bits: &mut [u64], counts: &mut [u32])
         });
     }
     let mut at: usize = 0;
-    let mut held: usize = 0;
+    let mut held = Held {
+        rules: 0,
+        overrides: 0,
+        oppositions: 0,
+    };
     loop {
         let step = mark_record(lim, &s[at..], held, bits, counts);
-        match step {
-            Step::Rule(size) => {
+        let found = hold(held, step);
+        match found {
+            Found::Next(size, more) => {
                 at += size;
-                held += 1;
+                held = more;
             }
-            Step::End => return Reading::Count(held),
-            Step::Refused(x) => {
+            Found::End => return Reading::Count(held.rules),
+            Found::Refused(x) => {
                 let reason = x.reason;
                 return Reading::Refused(Refusal {
                     reason,

@@ -7,6 +7,8 @@ use lib.Dec.{ltb}
 use lib.ListN.{length}
 use Rattle.buffer.specs.Write.{write}
 use Rattle.literal.specs.declared.Limits.{Limits}
+use Rattle.literal.specs.declared.Literal.{Literal}
+use Rattle.semantics.specs.Rule.{Program}
 use Rattle.semantics.specs.Verdict.{Finding, finding}
 use Rattle.record.specs.declared.Reason.the-variants.{OutputShort}
 use Rattle.record.specs.Refusal.{refusal}
@@ -16,12 +18,13 @@ use Rattle.check_set.specs.declared.Check.{Check}
 use Rattle.check_set.specs.declared.Check.the-variants.{Found, Refused}
 use Rattle.check_set.specs.Verdict.{verdictOf, witness}
 
--- what a check finds in a slice and a set's slice: refusals as quotient's, but 12 above the sets that are checked, and
--- 9 exactly if the output slice is shorter than the set's record
+-- what a check finds of a program and a set, and in a slice and the set's slice: refusals as quotient's, but 12 above the sets that are
+-- checked, and 9 exactly if the output slice is shorter than the set's record
+abbrev pub foundOf : Program → List Literal → List ℕ → List ℕ → Result Finding
+foundOf p ls k out = refuseIf (ltb (length out) (length k)) (refusal OutputShort 0) (accepted (finding p ls))
+
 unfoldable pub found : Limits → List ℕ → List ℕ → List ℕ → Result Finding
-found F s k out =
-    withInputs F (F .checked) s k (λ p ls.
-    refuseIf (ltb (length out) (length k)) (refusal OutputShort 0) (accepted (finding p ls)))
+found F s k out = withInputs F (F .checked) s k (λ p ls. foundOf p ls k out)
 
 -- the answer of a check, and what the lent output holds then
 pub record Checked : Type 0 where

@@ -1,8 +1,8 @@
 -- What the parts of the check find, between the set's slice and the finding, and what the check asks of a form.
 -- In order: the record and the verdict of what a search over masks found; that the search was done; that a program and a set can be
--- judged; that they were; a form that the code has room for.
+-- judged; that they were; a form that the code has room for; a program and a set that can be checked; their check.
 -- Assumes nothing.
-use Prim.Native.Nat.{ℕ, _-_, _^_, _≤_, _<_}
+use Prim.Native.Nat.{ℕ, _+_, _-_, _^_, _≤_, _<_}
 use mathlib.Core.Path.{_≡_}
 use mathlib.Core.Bool.{cond}
 use mathlib.Core.List.{List, []}
@@ -12,10 +12,12 @@ use Rattle.buffer.specs.Write.{write}
 use Rattle.literal.specs.declared.Limits.{Limits}
 use Rattle.literal.specs.declared.Literal.{Literal}
 use Rattle.semantics.specs.Rule.{Program}
+use Rattle.semantics.specs.Form.{mostAppended}
 use Rattle.semantics.specs.Verdict.{finding}
 use Rattle.record.specs.Layout.{encodedProgram}
 use Rattle.record.specs.Result.{accepted}
-use Rattle.record_walk.specs.Code.{Holds}
+use Rattle.record_walk.specs.Code.{Holds, HoldsFile}
+use Rattle.expand.specs.Code.{Meaning}
 use Rattle.set.specs.Reading.{parsedSet}
 use Rattle.check_force.specs.Code.{Smaller}
 use Rattle.check_search.specs.declared.Found.{Found}
@@ -24,6 +26,7 @@ use Rattle.check_clauses.specs.Code.{Clausable}
 use Rattle.check_witness.specs.Code.{pickedRecord}
 use Rattle.check_set.specs.declared.Verdict.{Verdict}
 use Rattle.check_set.specs.Verdict.{verdictOf, witness}
+use Rattle.check_set.specs.Check.{foundOf, Checked, checkedOf}
 
 -- of a set with n literals in s, the record of the part that was found; nothing where none was
 unfoldable pub foundRecord : List ℕ → ℕ → Found → List ℕ
@@ -63,9 +66,44 @@ abbrev pub Judged : List ℕ → List ℕ → List ℕ → Verdict → List ℕ 
 Judged s k out r end =
     (F : Limits) (most : ℕ) (p : Program) (ls : List Literal) → s ≡ encodedProgram p → parsedSet F most k ≡ accepted ls → Meant p ls out r end
 
--- a form with no more rules than b bodies and h heads of clauses there is room for, and no more
+-- a form with no more rules, with those that sheets append, than b bodies and h heads of clauses there is room for, and no more
 -- literals in a set that is checked than a mask has positions
 pub record Checkable (F : Limits) (b h : ℕ) : Type 0 where
-  pub rules : (F .rules ≤ b) × (F .rules ≤ h)
-  pub numbered : F .rules < 65535
+  pub rules : (F .rules + mostAppended F ≤ b) × (F .rules + mostAppended F ≤ h)
+  pub numbered : F .rules + mostAppended F < 65535
   pub checked : F .checked ≤ 64
+
+-- s holds a program, with room for a clause of each rule, and k a set of a form's literals, n of them and no more than a mask has positions
+pub record Checking (s k : List ℕ) (n b h : ℕ) : Type 0 where
+  pub program : Holds (Clausable b h) s
+  pub form : Limits
+  pub most : ℕ
+  pub literals : List Literal
+  pub members : parsedSet form most k ≡ accepted literals
+  pub count : length literals ≡ n
+  pub few : n ≤ 64
+
+-- s holds a file with room for a clause of each rule of its program, and `bytes` bytes for its normal form, and k such a set
+pub record CheckingFile (bytes : ℕ) (s k : List ℕ) (n b h : ℕ) : Type 0 where
+  pub file : HoldsFile (Meaning (Clausable b h) bytes) s
+  pub form : Limits
+  pub most : ℕ
+  pub literals : List Literal
+  pub members : parsedSet form most k ≡ accepted literals
+  pub count : length literals ≡ n
+  pub few : n ≤ 64
+
+-- the rules of the largest program that a source means; arrays for the clauses of a source with sheets have this length
+abbrev pub expandedRules : ℕ
+expandedRules = 8448
+
+-- a form with no more written rules than b bodies and h heads there is room for, and no more with those that sheets append than
+-- `expandedRules`
+pub record CheckableFile (F : Limits) (b h : ℕ) : Type 0 where
+  pub rules : (F .rules ≤ b) × (F .rules ≤ h)
+  pub appended : F .rules + mostAppended F ≤ expandedRules
+  pub checked : F .checked ≤ 64
+
+-- the check of a program and of a set of these literals, whose record is k
+abbrev pub checkOf : Program → List Literal → List ℕ → List ℕ → Checked
+checkOf p ls k out = checkedOf (foundOf p ls k out) out

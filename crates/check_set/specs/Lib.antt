@@ -1,4 +1,4 @@
 pub mod Verdict
-pub mod Code
 pub mod Check
+pub mod Code
 pub mod Meets

@@ -1,26 +1,62 @@
--- What extending asks of a form, and the record that it writes.
--- In order: limits for which an extension is made; a set's literals with marks behind them.
+-- What extending asks of a form and of what was read, and the record that it writes.
+-- In order: limits for which an extension is made; a program and a set whose extension can be written, and a file and a set; the extension,
+-- delivered; a set's literals with marks behind them.
 -- Assumes nothing.
 use Prim.Native.Nat.{ℕ, _+_, _*_, _≤_, _<_}
+use mathlib.Core.Path.{_≡_}
 use mathlib.Core.List.{List, _++_}
-use lib.ListN.{take, drop}
+use lib.ListN.{length, take, drop}
 use Rattle.literal.specs.declared.Limits.{Limits}
+use Rattle.literal.specs.declared.Literal.{Literal}
+use Rattle.semantics.specs.Rule.{Program}
+use Rattle.semantics.specs.Form.{mostAppended, TakesDefeats}
+use Rattle.record.specs.Result.{accepted, Outcome, delivered}
+use Rattle.record_walk.specs.Code.{Holds, HoldsFile}
+use Rattle.expand.specs.Code.{Meaning}
+use Rattle.set.specs.Layout.{encodedSet}
+use Rattle.set.specs.Reading.{parsedSet}
 use Rattle.set.specs.Code.{setHeader}
 use Rattle.keys.specs.Code.{keyBytes}
+use Rattle.extend_marks.specs.Code.{Markable}
+use Rattle.extend.specs.Extend.{extensionList}
 
 -- the marks that a program's rules may add, no more than a rule has options
 abbrev pub most : ℕ
 most = 4096
 
--- limits for which an extension is made: each field of a literal fits two bytes, the marks are no more than `most`, and two
--- bytes count the literals with the marks
+-- limits for which an extension is made: the marks are no more than `most`, two bytes count the rules, with those that sheets append,
+-- each field of a literal fits two bytes, and two bytes count the literals with the marks
 pub record Extendable (F : Limits) : Type 0 where
-  pub some : 1 ≤ F .heads
+  pub appended : TakesDefeats F
   pub marks : F .rules * F .heads ≤ most
-  pub rules : F .rules < 65535
+  pub rules : F .rules + mostAppended F < 65535
   pub atoms : F .atoms < 65536
   pub tags : F .tags < 65536
   pub total : F .literals + most < 65536
+
+-- s holds a program whose marks there is room for, and k a set of a form's literals, n of them, which two bytes count with the marks
+pub record Extending (s k : List ℕ) (n : ℕ) : Type 0 where
+  pub program : Holds (Markable most) s
+  pub form : Limits
+  pub upto : ℕ
+  pub literals : List Literal
+  pub members : parsedSet form upto k ≡ accepted literals
+  pub counted : n ≡ length literals
+  pub total : n + most < 65536
+
+-- s holds a file whose program's marks there is room for, with `bytes` bytes for its normal form, and k such a set
+pub record ExtendingFile (bytes : ℕ) (s k : List ℕ) (n : ℕ) : Type 0 where
+  pub file : HoldsFile (Meaning (Markable most) bytes) s
+  pub form : Limits
+  pub upto : ℕ
+  pub literals : List Literal
+  pub members : parsedSet form upto k ≡ accepted literals
+  pub counted : n ≡ length literals
+  pub total : n + most < 65536
+
+-- the extension of a list of literals for a program, delivered
+abbrev pub extensionOf : Program → List Literal → List ℕ → Outcome
+extensionOf p ls out = delivered (accepted (encodedSet (extensionList p ls))) out
 
 -- the A: record of the first literals of the set in k, and of n marks behind them, given as keys
 unfoldable pub joined : List ℕ → ℕ → List ℕ → ℕ → List ℕ

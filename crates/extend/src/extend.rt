@@ -1,15 +1,18 @@
 // The extension of a source set: the program and the set are read, the marks gathered and sorted, and the record written.
 
+use expand::NORMAL;
+use expand::normal::write_normal;
 use extend_marks::marks::collect_marks;
+use inputs::Both;
 use inputs::read::read_inputs;
 use keys::write::write_keys;
 use keys_sort::sort::sort_keys;
 use literal::Limits;
 use literal::form::Source;
-use record::Reading;
 use record::Reason;
 use record::Refusal;
 use record::Written;
+use record_read::read::has_sheets;
 use record_write::copy::copy;
 use set::header::write_set_header;
 ghost use Prim.Native.Nat.{_+_, _*_, _≤_, _<_};
@@ -19,17 +22,18 @@ ghost use lib.ListN.{length, take};
 ghost use Rattle.buffer.specs.Write.{write};
 ghost use Rattle.literal.specs.Order.{key};
 ghost use Rattle.literal.specs.Limits.{source};
+ghost use Rattle.semantics.specs.Item.{expanded};
 ghost use Rattle.record.specs.Meets.{Meets};
+ghost use Rattle.expand.specs.Code.{normalBytes, Normalizable};
 ghost use Rattle.record_walk.specs.Code.{Holds};
 ghost use Rattle.set.specs.Code.{Ascends, keySet};
-ghost use Rattle.inputs.specs.Code.{Inputs};
 ghost use Rattle.keys.specs.Keys.{sortedKeys};
 ghost use Rattle.keys.specs.Code.{Fitting};
 ghost use Rattle.keys_sort.specs.Code.{Sorted};
 ghost use Rattle.extend_marks.specs.Marks.{marksFrom};
 ghost use Rattle.extend_marks.specs.Code.{Markable};
 ghost use Rattle.extend.specs.Extend.{extended};
-ghost use Rattle.extend.specs.Code.{most, Extendable, joined};
+ghost use Rattle.extend.specs.Code.{most, Extendable, Extending, ExtendingFile, extensionOf, joined};
 
 // The marks that a source's rules may add: no more than a rule has options.
 const MOST: usize = 4096;
@@ -64,10 +68,9 @@ fn write_joined(set: &[u8], count: usize, keys: &[u64], n: usize, out: &mut [u8]
 }
 
 // The extension of the set that `set` holds, for the program that `s` holds.
-fn write_extension(lim: Limits, s: &[u8], set: &[u8], count: usize, out: &mut [u8]) -> Written
-    requires { ⌜ Extendable lim ⌝ }
-    requires { ⌜ Inputs lim (lim .literals) (now s) (now set) count ⌝ }
-    ensures { λ r. ⌜ Meets (extended lim (now (s .entry)) (now (set .entry)) (now (out .entry))) r (now (out .exit)) ⌝ }
+pub fn write_extension(s: &[u8], set: &[u8], count: usize, out: &mut [u8]) -> Written
+    requires { ⌜ Extending (now s) (now set) count ⌝ }
+    ensures { λ r. ⌜ ((w : Extending (now (s .entry)) (now (set .entry)) count) → Meets (extensionOf (w .program .program) (w .literals) (now (out .entry))) r (now (out .exit))) ⌝ }
 {
     let mut keys = [0u64; MOST];
     let n = gather_marks(s, set, count, &mut keys);
@@ -82,15 +85,40 @@ fn write_extension(lim: Limits, s: &[u8], set: &[u8], count: usize, out: &mut [u
     Written::Length(size)
 }
 
-// The extension of the set in `k`, for the program in `s`, both in a form, written to the start of `out`.
+// The extension for the program that the file in `s` means, by way of its normal form, which is written to `normal`.
+fn extend_normal(s: &[u8], k: &[u8], count: usize, normal: &mut [u8], out: &mut [u8]) -> Written
+    requires { ⌜ ExtendingFile (length (now normal)) (now s) (now k) count ⌝ }
+    ensures { λ r. ⌜ ((w : ExtendingFile (length (now (normal .entry))) (now (s .entry)) (now (k .entry)) count) → Meets (extensionOf (expanded (w .file .items)) (w .literals) (now (out .entry))) r (now (out .exit))) ⌝ }
+{
+    let n = write_normal(s, normal);
+    write_extension(&normal[..n], k, count, out)
+}
+
+// The same, with an array for the normal form.
+fn extend_sheets(s: &[u8], k: &[u8], count: usize, out: &mut [u8]) -> Written
+    requires { ⌜ ExtendingFile normalBytes (now s) (now k) count ⌝ }
+    ensures { λ r. ⌜ ((w : ExtendingFile normalBytes (now (s .entry)) (now (k .entry)) count) → Meets (extensionOf (expanded (w .file .items)) (w .literals) (now (out .entry))) r (now (out .exit))) ⌝ }
+{
+    let mut normal = [0u8; NORMAL];
+    extend_normal(s, k, count, &mut normal, out)
+}
+
+// The extension of the set in `k`, for the program that the file in `s` means, both in a form: a file without sheets has the program's
+// records itself.
 fn extend(lim: Limits, s: &[u8], k: &[u8], out: &mut [u8]) -> Written
     requires { ⌜ Extendable lim ⌝ }
+    requires { ⌜ Normalizable lim ⌝ }
     ensures { λ r. ⌜ Meets (extended lim (now (s .entry)) (now (k .entry)) (now (out .entry))) r (now (out .exit)) ⌝ }
 {
     let inputs = read_inputs(lim, lim.literals, s, k);
     match inputs {
-        Reading::Refused(x) => Written::Refused(x),
-        Reading::Count(count) => write_extension(lim, s, k, count, out),
+        Both::Refused(x) => Written::Refused(x),
+        Both::Read(held, count) => {
+            if has_sheets(held) {
+                return extend_sheets(s, k, count, out);
+            }
+            write_extension(s, k, count, out)
+        }
     }
 }
 

@@ -1,5 +1,6 @@
 pub mod Collect
 pub mod Count
+pub mod Expanded
 pub mod Derived
 pub mod Gained
 pub mod Each

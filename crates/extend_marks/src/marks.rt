@@ -21,7 +21,7 @@ ghost use Rattle.record.specs.Header.{headCount};
 ghost use Rattle.record_walk.specs.Code.{Holds, recordSize, tagAt, optionsAt, Starts};
 ghost use Rattle.set.specs.Code.{Ascends, keySet};
 ghost use Rattle.extend_marks.specs.Marks.{derivedMarks, ruleMarks, marksFrom};
-ghost use Rattle.extend_marks.specs.Code.{Gained, Markable};
+ghost use Rattle.extend_marks.specs.Code.{Gained, Markable, Roomy};
 
 // Whether the option is in the set and not defeated there.
 fn is_derived(set: &[u8], count: usize, t: Tag, a: SignedAtom) -> bool
@@ -98,8 +98,7 @@ fn add_rule(
     requires { ⌜ 4 + 5 * count ≤ length (now set) ⌝ }
     requires { ⌜ Ascends (now set) count ⌝ }
     requires { ⌜ recordSize (now part) ≤ length (now part) ⌝ }
-    requires { ⌜ n + headCount (now part) ≤ length (now keys) ⌝ }
-    requires { ⌜ n < length (now keys) ⌝ }
+    requires { ⌜ Roomy (now part) n (length (now keys)) ⌝ }
     ensures { λ r. ⌜ ((x : Rule) → Starts (now (part .entry)) x → Gained (now (keys .entry)) (now (keys .exit)) n r (map key (ruleMarks (number .0) x (keySet (now (set .entry)) count)))) ⌝ }
 {
     if part[0] != b'D' {

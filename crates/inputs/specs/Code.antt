@@ -1,26 +1,38 @@
--- How code reads a program and a set in one call, before an operation makes anything of them.
--- In order: what reading both answers; both, as read. Assumes nothing.
+-- How code reads a file and a set in one call, before an operation makes anything of them.
+-- In order: a file with a set's number; what reading both answers; both, as read. Assumes nothing.
 use Prim.Native.Nat.{ℕ}
 use mathlib.Core.Path.{_≡_}
 use mathlib.Core.List.{List}
 use lib.ListN.{length}
 use Rattle.literal.specs.declared.Limits.{Limits}
 use Rattle.literal.specs.declared.Literal.{Literal}
-use Rattle.semantics.specs.Rule.{Program}
-use Rattle.record.specs.declared.Reading.{Reading}
-use Rattle.record.specs.Result.{accepted}
-use Rattle.record.specs.Reading.{parsed, readingOf}
+use Rattle.semantics.specs.Item.{Item}
+use Rattle.record.specs.declared.Held.{Held}
+use Rattle.record.specs.declared.Holding.{Holding}
+use Rattle.record.specs.Result.{Result, accepted, refused}
+use Rattle.record.specs.Reading.{items, heldOf, holdingOf}
 use Rattle.set.specs.Reading.{parsedSet}
-use Rattle.inputs.specs.Inputs.{withInputs}
+use Rattle.inputs.specs.declared.Both.{Both}
 
--- how many literals the set has
-unfoldable pub inputsReading : Limits → ℕ → List ℕ → List ℕ → Reading
-inputsReading F most s k = readingOf (withInputs F most s k (λ p ls. accepted ls))
+-- what a file holds, with the number of a set's literals
+unfoldable pub bothOf : Holding → ℕ → Both
+bothOf (Holding.All h) n = Both.Read h n
+bothOf (Holding.Refused x) n = Both.Refused x
 
--- s holds a program and k a set of n literals
-pub record Inputs (F : Limits) (most : ℕ) (s k : List ℕ) (n : ℕ) : Type 0 where
-  pub program : Program
-  pub holds : parsed F s ≡ accepted program
+-- the file's refusal, then the set's, then what both hold
+unfoldable pub bothAnswer : Result (List Item) → Result (List Literal) → Both
+bothAnswer (refused x) q = Both.Refused x
+bothAnswer (accepted is) (refused x) = Both.Refused x
+bothAnswer (accepted is) (accepted ls) = Both.Read (heldOf is) (length ls)
+
+unfoldable pub bothRead : Limits → ℕ → List ℕ → List ℕ → Both
+bothRead F most s k = bothAnswer (items F s) (parsedSet F most k)
+
+-- s holds a file, in which h is held, and k a set of n literals
+pub record Inputs (F : Limits) (most : ℕ) (s k : List ℕ) (h : Held) (n : ℕ) : Type 0 where
+  pub file : List Item
+  pub holds : items F s ≡ accepted file
+  pub held : heldOf file ≡ h
   pub literals : List Literal
   pub members : parsedSet F most k ≡ accepted literals
   pub counted : n ≡ length literals

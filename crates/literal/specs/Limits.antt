@@ -1,4 +1,4 @@
--- Each form's row of limits (01, "Source form and plain form"), and the largest set that is checked.
+-- Each form's row of limits (01, "Source form and plain form"; 02, Ask 2), and the largest set that is checked.
 -- Every other definition takes a `Limits` and names no number of this table.
 -- Assumes nothing.
 use Prim.Native.Nat.{ℕ}
@@ -11,13 +11,14 @@ abbrev pub sourceRules : ℕ
 sourceRules = 256
 
 abbrev pub plainRules : ℕ
-plainRules = 12800
+plainRules = 20992
 
 unfoldable pub source : Limits
 source =
     record {
-      length = 63236;
+      length = 64388;
       rules = sourceRules;
+      sheets = 64;
       heads = 16;
       positives = 16;
       nafs = 16;
@@ -33,8 +34,9 @@ source =
 unfoldable pub plain : Limits
 plain =
     record {
-      length = 317444;
+      length = 456708;
       rules = plainRules;
+      sheets = 0;
       heads = 16;
       positives = 16;
       nafs = 17;

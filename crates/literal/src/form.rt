@@ -9,9 +9,11 @@ ghost use Rattle.literal.specs.Limits.{plain, source};
 pub struct Source {}
 
 impl Source {
-    pub const LENGTH: usize = 63236;
+    pub const LENGTH: usize = 64388;
 
     pub const RULES: usize = 256;
+
+    pub const SHEETS: usize = 64;
 
     pub const HEADS: usize = 16;
 
@@ -39,6 +41,7 @@ impl Source {
         Limits {
             length: Self::LENGTH,
             rules: Self::RULES,
+            sheets: Self::SHEETS,
             heads: Self::HEADS,
             positives: Self::POSITIVES,
             nafs: Self::NAFS,
@@ -57,9 +60,11 @@ impl Source {
 pub struct Plain {}
 
 impl Plain {
-    pub const LENGTH: usize = 317444;
+    pub const LENGTH: usize = 456708;
 
-    pub const RULES: usize = 12800;
+    pub const RULES: usize = 20992;
+
+    pub const SHEETS: usize = 0;
 
     pub const HEADS: usize = 16;
 
@@ -87,6 +92,7 @@ impl Plain {
         Limits {
             length: Self::LENGTH,
             rules: Self::RULES,
+            sheets: Self::SHEETS,
             heads: Self::HEADS,
             positives: Self::POSITIVES,
             nafs: Self::NAFS,

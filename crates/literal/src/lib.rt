@@ -53,6 +53,8 @@ pub struct Limits {
     // Bytes and rules of a program.
     pub length: usize,
     pub rules: usize,
+    // Overrides, and oppositions, of a preference sheet: none where the form has no sheets.
+    pub sheets: usize,
     // Literals in a rule's head, in its positive body and under naf.
     pub heads: usize,
     pub positives: usize,

@@ -2,35 +2,86 @@
 
 use crate::pass::is_room;
 use crate::pass::write_quotient;
+use expand::NORMAL;
+use expand::normal::write_normal;
+use inputs::Both;
 use inputs::read::read_inputs;
 use literal::Limits;
 use literal::form::Plain;
 use literal::form::Source;
-use record::Reading;
 use record::Reason;
 use record::Refusal;
 use record::Written;
+use record_read::read::has_sheets;
+ghost use mathlib.Core.Path.{_≡_};
+ghost use lib.ListN.{length};
+ghost use Rattle.semantics.specs.Item.{expanded};
+ghost use Rattle.expand.specs.Code.{normalBytes, Normalizable};
 ghost use Rattle.literal.specs.Limits.{source, plain};
 ghost use Rattle.record.specs.Meets.{Meets};
 ghost use Rattle.quotient.specs.Quotient.{quotiented};
-ghost use Rattle.quotient.specs.Code.{Sized};
+ghost use Rattle.quotient.specs.Code.{Sized, Dividing, DividingFile, deliveredQuotient};
 
-// The quotient of the program that `s` holds by the set that `k` holds, in a form, written to the start of `out`.
+// The quotient of the program that `s` holds by the set of `count` literals that `k` holds, written to the start of `out`.
+pub fn divide_program(s: &[u8], k: &[u8], count: usize, out: &mut [u8]) -> Written
+    requires { ⌜ Dividing (now s) (now k) count ⌝ }
+    ensures { λ r. ⌜ ((w : Dividing (now (s .entry)) (now (k .entry)) count) → Meets (deliveredQuotient (w .program .program) (w .literals) (now (out .entry))) r (now (out .exit))) ⌝ }
+{
+    if !is_room(s, k, count, out.len()) {
+        return Written::Refused(Refusal {
+            reason: Reason::OutputShort,
+            place: 0,
+        });
+    }
+    Written::Length(write_quotient(s, k, count, out))
+}
+
+// The quotient of the program in `s` by the set in `k`, both in a form without sheets.
 fn divide(lim: Limits, s: &[u8], k: &[u8], out: &mut [u8]) -> Written
     requires { ⌜ Sized lim ⌝ }
+    requires { ⌜ lim .sheets ≡ 0 ⌝ }
     ensures { λ r. ⌜ Meets (quotiented lim (now (s .entry)) (now (k .entry)) (now (out .entry))) r (now (out .exit)) ⌝ }
 {
     let inputs = read_inputs(lim, lim.literals, s, k);
     match inputs {
-        Reading::Refused(x) => Written::Refused(x),
-        Reading::Count(count) => {
-            if !is_room(s, k, count, out.len()) {
-                return Written::Refused(Refusal {
-                    reason: Reason::OutputShort,
-                    place: 0,
-                });
+        Both::Refused(x) => Written::Refused(x),
+        Both::Read(_, count) => divide_program(s, k, count, out),
+    }
+}
+
+// The quotient of the program that the file in `s` means, by way of its normal form, which is written to `normal`.
+fn divide_normal(s: &[u8], k: &[u8], count: usize, normal: &mut [u8], out: &mut [u8]) -> Written
+    requires { ⌜ DividingFile (length (now normal)) (now s) (now k) count ⌝ }
+    ensures { λ r. ⌜ ((w : DividingFile (length (now (normal .entry))) (now (s .entry)) (now (k .entry)) count) → Meets (deliveredQuotient (expanded (w .file .items)) (w .literals) (now (out .entry))) r (now (out .exit))) ⌝ }
+{
+    let n = write_normal(s, normal);
+    divide_program(&normal[..n], k, count, out)
+}
+
+// The same, with an array for the normal form.
+fn divide_sheets(s: &[u8], k: &[u8], count: usize, out: &mut [u8]) -> Written
+    requires { ⌜ DividingFile normalBytes (now s) (now k) count ⌝ }
+    ensures { λ r. ⌜ ((w : DividingFile normalBytes (now (s .entry)) (now (k .entry)) count) → Meets (deliveredQuotient (expanded (w .file .items)) (w .literals) (now (out .entry))) r (now (out .exit))) ⌝ }
+{
+    let mut normal = [0u8; NORMAL];
+    divide_normal(s, k, count, &mut normal, out)
+}
+
+// The quotient of the program that the file in `s` means by the set in `k`, both in a form: a file without sheets has the program's
+// records itself.
+fn divide_file(lim: Limits, s: &[u8], k: &[u8], out: &mut [u8]) -> Written
+    requires { ⌜ Sized lim ⌝ }
+    requires { ⌜ Normalizable lim ⌝ }
+    ensures { λ r. ⌜ Meets (quotiented lim (now (s .entry)) (now (k .entry)) (now (out .entry))) r (now (out .exit)) ⌝ }
+{
+    let both = read_inputs(lim, lim.literals, s, k);
+    match both {
+        Both::Refused(x) => Written::Refused(x),
+        Both::Read(held, count) => {
+            if has_sheets(held) {
+                return divide_sheets(s, k, count, out);
             }
-            Written::Length(write_quotient(s, k, count, out))
+            divide_program(s, k, count, out)
         }
     }
 }
@@ -39,7 +90,7 @@ fn divide(lim: Limits, s: &[u8], k: &[u8], out: &mut [u8]) -> Written
 pub fn quotient_source(s: &[u8], k: &[u8], out: &mut [u8]) -> Written
     ensures { λ r. ⌜ Meets (quotiented source (now (s .entry)) (now (k .entry)) (now (out .entry))) r (now (out .exit)) ⌝ }
 {
-    divide(Source::limits(), s, k, out)
+    divide_file(Source::limits(), s, k, out)
 }
 
 // The plain form.

@@ -2,6 +2,7 @@ pub mod Result
 pub mod Layout
 pub mod Fit
 pub mod Keeps
+pub mod Unsheeted
 pub mod Steps
 pub mod Marks
 pub mod Literals
@@ -12,5 +13,6 @@ pub mod Places
 pub mod Sound
 pub mod Complete
 pub mod Reading
+pub mod Meant
 pub mod Bounds
 pub mod Delivered

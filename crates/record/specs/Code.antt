@@ -1,17 +1,23 @@
 -- What the reader's functions answer, from what the definitions of `Reading` give: a function keeps a rule's length
 -- where the definition gives the rule.
--- In order: a run of literals; the kinds of head literals; one record.
+-- In order: a run of literals; the kinds of head literals; one record, and what is left behind it; how many rules a file holds, and whether it holds sheet
+-- records.
 -- Assumes nothing.
 use Prim.Native.Nat.{ℕ, zero, suc, _+_}
-use mathlib.Core.Bool.{Bool, true, _&&_}
+use mathlib.Core.Bool.{Bool, true, _&&_, _||_}
 use mathlib.Core.List.{List}
-use lib.Dec.{leb}
+use lib.Dec.{ltb, leb}
 use lib.ListN.{getD}
 use Rattle.literal.specs.declared.Literal.{Literal}
+use Rattle.semantics.specs.Item.{rule, override, opposition}
 use Rattle.record.specs.declared.Run.{Run}
 use Rattle.record.specs.declared.Step.{Step}
+use Rattle.record.specs.declared.Held.{Held}
+use Rattle.record.specs.declared.Found.{Found}
+use Rattle.record.specs.declared.Holding.{Holding}
+use Rattle.record.specs.declared.Reading.{Reading}
 use Rattle.record.specs.Result.{Result, accepted, refused}
-use Rattle.record.specs.Reading.{Entry, rule, end}
+use Rattle.record.specs.Reading.{Entry, item, end}
 
 -- a run of literals is right, or refused
 unfoldable pub runOf : Result (List Literal) → Run
@@ -23,8 +29,27 @@ unfoldable pub signedKinds : List ℕ → ℕ → ℕ → Bool
 signedKinds t at zero = true
 signedKinds t at (suc n) = leb (getD t at 0) 1 && signedKinds t (at + 5) n
 
--- one record: a rule's length, the end, or a refusal
+-- one record: an item's kind and length, the end, or a refusal
 unfoldable pub stepOf : Result Entry → Step
-stepOf (accepted (rule r size)) = Step.Rule size
+stepOf (accepted (item (rule r) size)) = Step.Rule size
+stepOf (accepted (item (override o) size)) = Step.Override size
+stepOf (accepted (item (opposition x) size)) = Step.Opposition size
 stepOf (accepted end) = Step.End
 stepOf (refused x) = Step.Refused x
+
+-- what is left behind it, where h is held before it
+unfoldable pub foundOf : Held → Step → Found
+foundOf h (Step.Rule size) = Found.Next size (record { rules = h .rules + 1; overrides = h .overrides; oppositions = h .oppositions })
+foundOf h (Step.Override size) = Found.Next size (record { rules = h .rules; overrides = h .overrides + 1; oppositions = h .oppositions })
+foundOf h (Step.Opposition size) = Found.Next size (record { rules = h .rules; overrides = h .overrides; oppositions = h .oppositions + 1 })
+foundOf h Step.End = Found.End
+foundOf h (Step.Refused x) = Found.Refused x
+
+-- how many rules are held
+unfoldable pub ruleCount : Holding → Reading
+ruleCount (Holding.All h) = Reading.Count (h .rules)
+ruleCount (Holding.Refused x) = Reading.Refused x
+
+-- sheet records are held
+unfoldable pub sheeted : Held → Bool
+sheeted h = ltb 0 (h .overrides) || ltb 0 (h .oppositions)

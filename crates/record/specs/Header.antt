@@ -16,6 +16,13 @@ defeasibleLetter = 0x44
 abbrev pub endLetter : ℕ
 endLetter = 0x45
 
+-- O and X: an override, an opposition
+abbrev pub overrideLetter : ℕ
+overrideLetter = 0x4F
+
+abbrev pub oppositionLetter : ℕ
+oppositionLetter = 0x58
+
 -- A and R: a set, a refusal
 abbrev pub setLetter : ℕ
 setLetter = 0x41

@@ -1,5 +1,6 @@
--- The layout of records (01, "Records"), and programs as bytes.
--- In order: literals; a header; a rule's record; the end record; a program; a program within a form's limits.
+-- The layout of records (01, "Records"; 02, Ask 2), and programs and files of items as bytes.
+-- In order: literals; a header; a rule's record; the end record; a program; a program within a form's limits; sheet records; a
+-- file of items; one within a form's limits.
 -- Not here: A: records (`set`), R: records (`Refusal`).
 -- Assumes nothing.
 use Prim.Native.Nat.{ℕ}
@@ -13,8 +14,10 @@ use Rattle.literal.specs.declared.Literal.{Literal}
 use Rattle.literal.specs.declared.Literal.the-variants.{Signed}
 use Rattle.literal.specs.Literal.{encoded}
 use Rattle.semantics.specs.Rule.{Rule, strict, defeasible, Program}
-use Rattle.semantics.specs.Form.{keepsRules}
-use Rattle.record.specs.Header.{strictLetter, defeasibleLetter, endLetter, colon}
+use Rattle.semantics.specs.Expansion.{Override, Opposition}
+use Rattle.semantics.specs.Item.{Item, rule, override, opposition, rules}
+use Rattle.semantics.specs.Form.{keepsRules, keepsItems}
+use Rattle.record.specs.Header.{strictLetter, defeasibleLetter, endLetter, overrideLetter, oppositionLetter, colon}
 
 -- literals one behind the other
 unfoldable pub encodedLiterals : List Literal → List ℕ
@@ -46,3 +49,28 @@ encodedProgram p = encodedRules p ++ encodedEnd (length p)
 -- a program within the form's limits: each count, tag and literal, the number of rules, and the length
 unfoldable pub keeps : Limits → Program → Bool
 keeps F p = keepsRules F p && leb (length (encodedProgram p)) (F .length)
+
+-- O: an override: two tags, the upper first; X: an opposition: two literals
+unfoldable pub encodedOverride : Override → List ℕ
+encodedOverride o = overrideLetter ∷ colon ∷ (twoBytes (o .upper .0) ++ twoBytes (o .lower .0))
+
+unfoldable pub encodedOpposition : Opposition → List ℕ
+encodedOpposition x = oppositionLetter ∷ colon ∷ (encoded (Signed (x .one)) ++ encoded (Signed (x .other)))
+
+-- an item's record
+unfoldable pub encodedItem : Item → List ℕ
+encodedItem (rule r) = encodedRule r
+encodedItem (override o) = encodedOverride o
+encodedItem (opposition x) = encodedOpposition x
+
+unfoldable pub encodedItems : List Item → List ℕ
+encodedItems [] = []
+encodedItems (i ∷ is) = encodedItem i ++ encodedItems is
+
+-- a file: its items' records in order, and the end record, which counts the rules among them
+unfoldable pub encodedFile : List Item → List ℕ
+encodedFile is = encodedItems is ++ encodedEnd (length (rules is))
+
+-- a file within the form's limits: its items, and the length
+unfoldable pub keepsFile : Limits → List Item → Bool
+keepsFile F is = keepsItems F is && leb (length (encodedFile is)) (F .length)

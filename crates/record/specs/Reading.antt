@@ -1,7 +1,8 @@
--- Reading a program in a form (01, "Read"): the tests in document 01's order, with their places.
--- In order: a run of literals; a rule's record, test by test; the end record; one record; a program; read's answer.
--- A record is read in its own part of the slice, told how many rules are held, and its places are counted from the
--- part's start. Reading goes on with the part behind the record just read.
+-- Reading a file in a form (01, "Read"; 02, Ask 2): the tests in the documents' order, with their places.
+-- In order: a run of literals; a rule's record, test by test; sheet records; the end record; one record; a file's items; the
+-- program that they mean; read's answers.
+-- A record is read in its own part of the slice, told what is held, and its places are counted from the part's start. Reading
+-- goes on with the part behind the record just read.
 -- Assumes nothing.
 use Prim.Native.Nat.{ℕ, zero, suc, _+_, _*_}
 use mathlib.Core.Bool.{Bool, true, false, not, _&&_}
@@ -14,21 +15,25 @@ use Rattle.literal.specs.declared.Limits.{Limits}
 use Rattle.literal.specs.declared.SignedAtom.{SignedAtom}
 use Rattle.literal.specs.declared.Literal.{Literal}
 use Rattle.literal.specs.declared.Literal.the-variants.{Signed, Defeated, Derived, RuleDefeated}
-use Rattle.literal.specs.Literal.{Valid, Wrong, inRange, decoded}
+use Rattle.literal.specs.Literal.{Decoded, Valid, Wrong, inRange, decoded}
+use Rattle.semantics.specs.Set.{sameSigned}
 use Rattle.semantics.specs.Rule.{Rule, strict, defeasible, Program}
+use Rattle.semantics.specs.Item.{Item, rule, override, opposition, rules, overrides, oppositions, expanded}
 use Rattle.semantics.specs.Form.{keepsCounts}
-use Rattle.record.specs.declared.Reason.the-variants.{TooLong, MarkCut, MarkWrong, HeaderCut, TooManyRules, TagWrong, TooManyLiterals, LiteralsCut, LiteralWrong, HeadWrong, EndWrong}
+use Rattle.record.specs.declared.Reason.the-variants.{TooLong, MarkCut, MarkWrong, HeaderCut, TooManyRules, TagWrong, TooManyLiterals, LiteralsCut, LiteralWrong, HeadWrong, EndWrong, TooManySheets, SheetCut, SheetSame}
 use Rattle.record.specs.declared.Mark.{Mark}
-use Rattle.record.specs.declared.Mark.the-variants.{RuleMark, EndMark, NoMark}
+use Rattle.record.specs.declared.Mark.the-variants.{RuleMark, OverrideMark, OppositionMark, EndMark, NoMark}
+use Rattle.record.specs.declared.Held.{Held}
+use Rattle.record.specs.declared.Holding.{Holding}
 use Rattle.record.specs.declared.Reading.{Reading}
 use Rattle.record.specs.declared.Reading.the-variants.{Count, Refused}
-use Rattle.record.specs.Header.{strictLetter, defeasibleLetter, endLetter, letterOf, headCount, positiveCount, nafCount, colon}
+use Rattle.record.specs.Header.{strictLetter, defeasibleLetter, endLetter, overrideLetter, oppositionLetter, letterOf, headCount, positiveCount, nafCount, colon}
 use Rattle.record.specs.Refusal.{refusal, shifted}
 use Rattle.record.specs.Result.{Result, accepted, refused, andThen, refuseIf}
 
--- what one record is: a rule and the record's length, or the end
+-- what one record is: an item and the record's length, or the end
 pub data Entry : Type 0 where
-  rule : Rule → ℕ → Entry
+  item : Item → ℕ → Entry
   end : Entry
 
 -- n literals from `at` on; 5 at the first wrong one's first byte
@@ -72,7 +77,7 @@ unfoldable pub bodyAt : Limits → Bool → List ℕ → ℕ → ℕ → ℕ →
 bodyAt F d t h b c =
     refuseIf (ltb (length t) (7 + 5 * (h + b + c))) (refusal LiteralsCut 0)
     (andThen (literalsAt F t 7 (h + b + c)) (λ ls.
-    andThen (ruleOf d (numberAt t 2) h b ls) (λ r. accepted (rule r (7 + 5 * (h + b + c))))))
+    andThen (ruleOf d (numberAt t 2) h b ls) (λ r. accepted (item (rule r) (7 + 5 * (h + b + c))))))
 
 -- a rule's record, defeasible or strict, where n rules are held: 2 if the header is cut; 4 if it is one rule too many;
 -- 6 for the tag; 4 for a count over its limit; then the literals
@@ -84,6 +89,38 @@ ruleAt F d n t =
     (refuseIf (not (keepsCounts F (headCount t) (positiveCount t) (nafCount t))) (refusal TooManyLiterals 0)
     (bodyAt F d t (headCount t) (positiveCount t) (nafCount t)))))
 
+-- an override, where n are held: 4 if it is one too many; 2 if it is cut; 6 for a tag; 14 if both tags are the same
+unfoldable pub overrideAt : Limits → ℕ → List ℕ → Result Entry
+overrideAt F n t =
+    refuseIf (leb (F .sheets) n) (refusal TooManySheets 0)
+    (refuseIf (ltb (length t) 6) (refusal SheetCut 0)
+    (refuseIf (not (inRange (F .tags) (numberAt t 2) && inRange (F .tags) (numberAt t 4))) (refusal TagWrong 0)
+    (refuseIf (eqb (numberAt t 2) (numberAt t 4)) (refusal SheetSame 0)
+    (accepted (item (override (record { upper = record { 0 = numberAt t 2 }; lower = record { 0 = numberAt t 4 } })) 6)))))
+
+-- the atom or negated atom that five bytes spell, from `at` on; 5 there for any other
+unfoldable pub signedOf : Decoded → ℕ → Result SignedAtom
+signedOf (Valid (Signed a)) at = accepted a
+signedOf (Valid (Defeated t a)) at = refused (refusal LiteralWrong at)
+signedOf (Valid (Derived t a)) at = refused (refusal LiteralWrong at)
+signedOf (Valid (RuleDefeated n)) at = refused (refusal LiteralWrong at)
+signedOf Wrong at = refused (refusal LiteralWrong at)
+
+unfoldable pub signedAt : Limits → List ℕ → ℕ → Result SignedAtom
+signedAt F t at = signedOf (decoded F (drop at t)) at
+
+-- 14 if both options are the same
+unfoldable pub oppositionOf : SignedAtom → SignedAtom → Result Entry
+oppositionOf a b = refuseIf (sameSigned a b) (refusal SheetSame 0) (accepted (item (opposition (record { one = a; other = b })) 12))
+
+-- an opposition, where n are held: 4 if it is one too many; 2 if it is cut; 5 at the first wrong literal; 14
+unfoldable pub oppositionAt : Limits → ℕ → List ℕ → Result Entry
+oppositionAt F n t =
+    refuseIf (leb (F .sheets) n) (refusal TooManySheets 0)
+    (refuseIf (ltb (length t) 12) (refusal SheetCut 0)
+    (andThen (signedAt F t 2) (λ a.
+    andThen (signedAt F t 7) (λ b. oppositionOf a b))))
+
 -- the end record, where n rules are held: 2 if it is cut; 8 for a wrong number or bytes behind it
 unfoldable pub endAt : ℕ → List ℕ → Result Entry
 endAt n t =
@@ -94,46 +131,77 @@ endAt n t =
 unfoldable pub marked : ℕ → List ℕ → Bool
 marked letter t = eqb (letterOf t) letter && eqb (getD t 1 0) colon
 
-unfoldable pub pickMark : Bool → Bool → Bool → Mark
-pickMark true d e = RuleMark false
-pickMark false true e = RuleMark true
-pickMark false false true = EndMark
-pickMark false false false = NoMark
+unfoldable pub pickMark : Bool → Bool → Bool → Bool → Bool → Mark
+pickMark true d o x e = RuleMark false
+pickMark false true o x e = RuleMark true
+pickMark false false true x e = OverrideMark
+pickMark false false false true e = OppositionMark
+pickMark false false false false true = EndMark
+pickMark false false false false false = NoMark
 
--- the marks of a form: S: and E:, and D: where it has defeasible rules
+-- the marks of a form: S: and E:, D: where it has defeasible rules, O: and X: where it has preference sheets
 unfoldable pub markAt : Limits → List ℕ → Mark
-markAt F t = pickMark (marked strictLetter t) (marked defeasibleLetter t && F .defeasible) (marked endLetter t)
+markAt F t =
+    pickMark (marked strictLetter t) (marked defeasibleLetter t && F .defeasible) (marked overrideLetter t && ltb 0 (F .sheets))
+    (marked oppositionLetter t && ltb 0 (F .sheets)) (marked endLetter t)
 
-unfoldable pub markedRecord : Limits → Mark → ℕ → List ℕ → Result Entry
-markedRecord F (RuleMark d) n t = ruleAt F d n t
-markedRecord F EndMark n t = endAt n t
-markedRecord F NoMark n t = refused (refusal MarkWrong 0)
+unfoldable pub markedRecord : Limits → Mark → Held → List ℕ → Result Entry
+markedRecord F (RuleMark d) h t = ruleAt F d (h .rules) t
+markedRecord F OverrideMark h t = overrideAt F (h .overrides) t
+markedRecord F OppositionMark h t = oppositionAt F (h .oppositions) t
+markedRecord F EndMark h t = endAt (h .rules) t
+markedRecord F NoMark h t = refused (refusal MarkWrong 0)
 
--- one record, where n rules are held: 2 if fewer than two bytes are left; 3 for a mark that is not the form's
-unfoldable pub recordAt : Limits → ℕ → List ℕ → Result Entry
-recordAt F n t = refuseIf (ltb (length t) 2) (refusal MarkCut 0) (markedRecord F (markAt F t) n t)
+-- one record, where h is held: 2 if fewer than two bytes are left; 3 for a mark that is not the form's
+unfoldable pub recordAt : Limits → Held → List ℕ → Result Entry
+recordAt F h t = refuseIf (ltb (length t) 2) (refusal MarkCut 0) (markedRecord F (markAt F t) h t)
 
--- record by record: f bounds how many, t is the part that is left, it starts at `at`, and n rules are held
-unfoldable pub rulesFrom : Limits → ℕ → List ℕ → ℕ → ℕ → Result Program
-rulesFrom F zero t at n = refused (refusal MarkCut at)
-rulesFrom F (suc f) t at n =
-    elim (recordAt F n t) [
+-- nothing is held; one item more is held
+abbrev pub nothing : Held
+nothing = record { rules = 0; overrides = 0; oppositions = 0 }
+
+unfoldable pub holding : Held → Item → Held
+holding h (rule r) = record { rules = h .rules + 1; overrides = h .overrides; oppositions = h .oppositions }
+holding h (override o) = record { rules = h .rules; overrides = h .overrides + 1; oppositions = h .oppositions }
+holding h (opposition x) = record { rules = h .rules; overrides = h .overrides; oppositions = h .oppositions + 1 }
+
+-- record by record: f bounds how many, t is the part that is left, it starts at `at`, and h is held
+unfoldable pub itemsFrom : Limits → ℕ → List ℕ → ℕ → Held → Result (List Item)
+itemsFrom F zero t at h = refused (refusal MarkCut at)
+itemsFrom F (suc f) t at h =
+    elim (recordAt F h t) [
       | refused x ↦ refused (shifted at x)
       | accepted e ↦
           elim e [
-            | rule r size ↦ andThen (rulesFrom F f (drop size t) (at + size) (n + 1)) (λ p. accepted (r ∷ p))
+            | item i size ↦ andThen (itemsFrom F f (drop size t) (at + size) (holding h i)) (λ is. accepted (i ∷ is))
             | end ↦ accepted []
           ]
     ]
 
--- the program that a slice holds, in a form: 1 if the slice is too long; then record by record
+-- the items that a slice holds, in a form: 1 if the slice is too long; then record by record
+unfoldable pub items : Limits → List ℕ → Result (List Item)
+items F s = refuseIf (ltb (F .length) (length s)) (refusal TooLong 0) (itemsFrom F (length s + 1) s 0 nothing)
+
+-- the rules that are written there, and the program that is meant
+unfoldable pub written : Limits → List ℕ → Result Program
+written F s = andThen (items F s) (λ is. accepted (rules is))
+
 unfoldable pub parsed : Limits → List ℕ → Result Program
-parsed F s = refuseIf (ltb (F .length) (length s)) (refusal TooLong 0) (rulesFrom F (length s + 1) s 0 0)
+parsed F s = andThen (items F s) (λ is. accepted (expanded is))
+
+-- what a file's items come to: how many of each kind
+unfoldable pub heldOf : List Item → Held
+heldOf is = record { rules = length (rules is); overrides = length (overrides is); oppositions = length (oppositions is) }
+
+unfoldable pub holdingOf : Result (List Item) → Holding
+holdingOf (accepted is) = Holding.All (heldOf is)
+holdingOf (refused x) = Holding.Refused x
 
 -- the answer of a reading: how many rules, or literals, were read
 unfoldable pub readingOf : {A : Type 0} → Result (List A) → Reading
 readingOf (accepted xs) = Count (length xs)
 readingOf (refused x) = Refused x
 
+-- reading counts written rules
 unfoldable pub reading : Limits → List ℕ → Reading
-reading F s = readingOf (parsed F s)
+reading F s = readingOf (written F s)

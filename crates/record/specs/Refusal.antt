@@ -4,7 +4,7 @@ use Prim.Native.Nat.{ℕ, _+_}
 use mathlib.Core.List.{List, _∷_}
 use Rattle.buffer.specs.Bytes.{fourBytes}
 use Rattle.record.specs.declared.Reason.{Reason}
-use Rattle.record.specs.declared.Reason.the-variants.{TooLong, MarkCut, MarkWrong, HeaderCut, TooManyRules, TagWrong, TooManyLiterals, LiteralsCut, LiteralWrong, HeadWrong, EndWrong, OutputShort, SetWrong, SetTooLarge, MemberWrong, NoSuchRule}
+use Rattle.record.specs.declared.Reason.the-variants.{TooLong, MarkCut, MarkWrong, HeaderCut, TooManyRules, TagWrong, TooManyLiterals, LiteralsCut, LiteralWrong, HeadWrong, EndWrong, OutputShort, SetWrong, SetTooLarge, MemberWrong, NoSuchRule, TooManySheets, SheetCut, SheetSame}
 use Rattle.record.specs.declared.Refusal.{Refusal}
 use Rattle.record.specs.Header.{refusalLetter, colon}
 
@@ -21,6 +21,9 @@ reasonNumber LiteralsCut = 2
 reasonNumber LiteralWrong = 5
 reasonNumber HeadWrong = 7
 reasonNumber EndWrong = 8
+reasonNumber TooManySheets = 4
+reasonNumber SheetCut = 2
+reasonNumber SheetSame = 14
 reasonNumber SetWrong = 10
 reasonNumber SetTooLarge = 12
 reasonNumber MemberWrong = 11

@@ -34,6 +34,12 @@ pub enum Reason {
     MemberWrong,
     // The program has no rule of this number.
     NoSuchRule,
+    // One override, or one opposition, too many.
+    TooManySheets,
+    // A sheet record is cut.
+    SheetCut,
+    // A sheet record names one tag, or one option, twice.
+    SheetSame,
 }
 
 pub struct Refusal {
@@ -56,10 +62,26 @@ pub enum Written {
     Refused(Refusal),
 }
 
+// How many items of each kind a part of a file holds.
+pub struct Held {
+    pub rules: usize,
+    pub overrides: usize,
+    pub oppositions: usize,
+}
+
+// What reading a file's items answers.
+pub enum Holding {
+    All(Held),
+    Refused(Refusal),
+}
+
 // The mark at a record's start.
 pub enum Mark {
     // S: or D:, the latter of a defeasible rule.
     RuleMark(bool),
+    // O: and X:
+    OverrideMark,
+    OppositionMark,
     EndMark,
     // None of the form's.
     NoMark,
@@ -75,6 +97,16 @@ pub enum Run {
 pub enum Step {
     // A rule's record of so many bytes.
     Rule(usize),
+    // An override's, and an opposition's.
+    Override(usize),
+    Opposition(usize),
+    End,
+    Refused(Refusal),
+}
+
+// What reading one record leaves to be read: the part behind it, with what is held by then, or nothing.
+pub enum Found {
+    Next(usize, Held),
     End,
     Refused(Refusal),
 }

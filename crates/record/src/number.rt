@@ -24,5 +24,8 @@ pub fn reason_number(reason: Reason) -> u8
         Reason::SetTooLarge => 12,
         Reason::MemberWrong => 11,
         Reason::NoSuchRule => 13,
+        Reason::TooManySheets => 4,
+        Reason::SheetCut => 2,
+        Reason::SheetSame => 14,
     }
 }

@@ -1,4 +1,4 @@
-// Reading a program in a form: what it holds, or why and where it is refused.
+// Reading a file in a form: what it holds, or why and where it is refused.
 
 use record::Step;
 
@@ -11,4 +11,5 @@ pub enum Front {
 }
 
 pub mod read;
+mod sheet;
 pub mod step;

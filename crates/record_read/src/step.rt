@@ -1,12 +1,16 @@
-// One record of a program, in its own part of the slice: document 01's tests in their order.
+// One record of a file, in its own part of the slice: document 01's tests in their order.
 
 use crate::Front;
+use crate::sheet::read_opposition;
+use crate::sheet::read_override;
 use buffer::get::get_number;
 use literal::Limits;
 use literal::Tag;
 use literal_decode::range::is_tag;
 use literal_decode::valid::is_literal;
 use literal_fields::field::get_tag;
+use record::Found;
+use record::Held;
 use record::Mark;
 use record::Reason;
 use record::Refusal;
@@ -19,7 +23,7 @@ ghost use lib.ListN.{length};
 ghost use Rattle.semantics.specs.Form.{keepsCounts};
 ghost use Rattle.record.specs.Refusal.{refusal};
 ghost use Rattle.record.specs.Reading.{literalsAt, markAt, tagRight, bodyAt, ruleAt, endAt, recordAt};
-ghost use Rattle.record.specs.Code.{runOf, signedKinds, stepOf};
+ghost use Rattle.record.specs.Code.{runOf, signedKinds, stepOf, foundOf};
 ghost use Rattle.record_read.specs.Code.{FrontAt};
 
 // A refusal at the record's first byte.
@@ -48,6 +52,20 @@ fn mark_of(lim: Limits, t: &[u8]) -> Mark
             }
         }
         b'E' => Mark::EndMark,
+        b'O' => {
+            if 0 < lim.sheets {
+                Mark::OverrideMark
+            } else {
+                Mark::NoMark
+            }
+        }
+        b'X' => {
+            if 0 < lim.sheets {
+                Mark::OppositionMark
+            } else {
+                Mark::NoMark
+            }
+        }
         _ => Mark::NoMark,
     }
 }
@@ -175,8 +193,8 @@ fn read_end(t: &[u8], held: usize) -> Step
     Step::End
 }
 
-// What stands before a record's literals, where `held` rules came before: what the record is, or that its literals are to be read.
-pub fn read_front(lim: Limits, t: &[u8], held: usize) -> Front
+// What stands before a record's literals, where `held` came before: what the record is, or that its literals are to be read.
+pub fn read_front(lim: Limits, t: &[u8], held: Held) -> Front
     ensures { λ r. ⌜ FrontAt lim (now (t .entry)) (recordAt lim held (now (t .entry))) r ⌝ }
 {
     if t.len() < 2 {
@@ -184,19 +202,59 @@ pub fn read_front(lim: Limits, t: &[u8], held: usize) -> Front
     }
     let mark = mark_of(lim, t);
     match mark {
-        Mark::RuleMark(defeasible) => read_header(lim, defeasible, t, held),
-        Mark::EndMark => Front::Told(read_end(t, held)),
+        Mark::RuleMark(defeasible) => read_header(lim, defeasible, t, held.rules),
+        Mark::OverrideMark => Front::Told(read_override(lim, t, held.overrides)),
+        Mark::OppositionMark => Front::Told(read_opposition(lim, t, held.oppositions)),
+        Mark::EndMark => Front::Told(read_end(t, held.rules)),
         Mark::NoMark => Front::Told(refuse(Reason::MarkWrong)),
     }
 }
 
-// One record, at the part's start, where `held` rules came before.
-pub fn read_record(lim: Limits, t: &[u8], held: usize) -> Step
+// One record, at the part's start, where `held` came before.
+pub fn read_record(lim: Limits, t: &[u8], held: Held) -> Step
     ensures { λ r. ⌜ r ≡ stepOf (recordAt lim held (now (t .entry))) ⌝ }
 {
     let front = read_front(lim, t, held);
     match front {
         Front::Told(step) => step,
         Front::Literals(defeasible) => read_body(lim, defeasible, t, t[4], t[5], t[6]),
+    }
+}
+
+// What is left behind a record, where `held` came before it: one item more is held.
+pub fn hold(held: Held, step: Step) -> Found
+    requires { ⌜ held .rules + held .overrides + held .oppositions < 9223372036854775808 ⌝ }
+    ensures { λ r. ⌜ r ≡ foundOf held step ⌝ }
+{
+    let rules = held.rules;
+    let overrides = held.overrides;
+    let oppositions = held.oppositions;
+    match step {
+        Step::Rule(size) => Found::Next(
+            size,
+            Held {
+                rules: rules + 1,
+                overrides,
+                oppositions,
+            },
+        ),
+        Step::Override(size) => Found::Next(
+            size,
+            Held {
+                rules,
+                overrides: overrides + 1,
+                oppositions,
+            },
+        ),
+        Step::Opposition(size) => Found::Next(
+            size,
+            Held {
+                rules,
+                overrides,
+                oppositions: oppositions + 1,
+            },
+        ),
+        Step::End => Found::End,
+        Step::Refused(x) => Found::Refused(x),
     }
 }

@@ -1,3 +1,4 @@
 pub mod Fields
 pub mod Options
 pub mod Walk
+pub mod Items

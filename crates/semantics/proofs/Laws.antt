@@ -9,6 +9,9 @@ pub mod Heads
 pub mod Wider
 pub mod Form
 pub mod Length
+pub mod Expanded
+pub mod Expansion
+pub mod Candidate
 pub mod Part
 pub mod Verdict
 pub mod Within

@@ -3,6 +3,8 @@ pub mod Rule
 pub mod Meaning
 pub mod Translation
 pub mod Extension
+pub mod Expansion
+pub mod Item
 pub mod Form
 pub mod Match
 pub mod Verdict

@@ -1,10 +1,10 @@
 //! Defeasible answer-set programs and their translation into plain disjunctive ones.
 //!
 //! Programs and sets are bytes, as document 01 lays them out: a program is its rules' records and an end record, a set
-//! is one `A:` record. There are two forms: a *source* has defeasible rules and defeat marks, a *plain* program has
-//! strict rules alone and every kind of mark. The functions are those of the static library, in which each is proved;
-//! they keep no state and allocate nothing. What writes a result writes it to the start of the slice that it is lent,
-//! hands back the written part, and leaves the bytes behind it as they were.
+//! is one `A:` record. There are two forms: a *source* has defeasible rules, defeat marks and preference sheets, a
+//! *plain* program has strict rules alone and every kind of mark. The functions are those of the static library, in
+//! which each is proved; they keep no state and allocate nothing. What writes a result writes it to the start of the
+//! slice that it is lent, hands back the written part, and leaves the bytes behind it as they were.
 //!
 //! | Operation | Functions | A buffer that always suffices |
 //! |---|---|---|
@@ -17,8 +17,16 @@
 //! | restriction of a plain set | [`restrict`] | [`restriction_bound`] |
 //! | is it an answer set? | [`check_source`], [`check_plain`] | [`witness_bound`] |
 //!
-//! What is not as document 01 asks is refused: a [`Refusal`] has the reason's number, the [`Slice`] of the call that it
-//! speaks of, and the place there. A call that refuses has written nothing.
+//! What is not as documents 01 and 02 ask is refused: a [`Refusal`] has the reason's number, the [`Slice`] of the call
+//! that it speaks of, and the place there. A call that refuses has written nothing.
+//!
+//! | | source | plain |
+//! |---|---|---|
+//! | bytes, at most | 64,388 | 456,708 |
+//! | rules | 256 | 20,992 |
+//! | head, positive and naf literals of a rule | 16, 16, 16 | 16, 16, 17 |
+//! | records of preference sheets, `O:` and `X:` | 64 and 64 | 0 |
+//! | literals of a set, of one that is checked | 1,000, 64 | 5,352, 64 |
 //!
 //! M3 of document 01: two choices, of which the first can defeat options of the second.
 //!
@@ -42,6 +50,42 @@
 //! let set = b"A:\0\x02\0\0\0\0\x03\0\0\0\0\x05"; // {3, 5}
 //! let mut witness = [0; 14];
 //! assert_eq!(aspda::check_source(&source, set, &mut witness)?, aspda::Verdict::Yes);
+//! # Ok::<(), aspda::Refusal>(())
+//! ```
+//!
+//! # Preference sheets
+//!
+//! A source may say which tag overrides which (`O:` records, the upper tag first) and which options oppose each other
+//! (`X:` records), anywhere before its end record. For each `O:` and each `X:`, both ways: if a defeasible rule with
+//! the upper tag heads a and one with the lower tag heads b, the strict rule "defeated (lower, b) if a" is appended
+//! behind the written rules, once. Every operation means the program with these rules; reading and showing count the
+//! written ones alone, and so does the end record. A verdict's rule number may be that of an appended rule.
+//!
+//! M3 again, its strict rules made from sheets:
+//!
+//! ```
+//! let source = [
+//!     &b"D:\0\x01\x03\0\0\0\0\0\0\x01\0\0\0\0\x02\0\0\0\0\x03"[..], // tag 1: 1 or 2 or 3
+//!     b"D:\0\x02\x02\0\0\0\0\0\0\x04\0\0\0\0\x05",                  // tag 2: 4 or 5
+//!     b"O:\0\x01\0\x02",                                             // tag 1 overrides tag 2
+//!     b"X:\0\0\0\0\x01\0\0\0\0\x04",                                 // 1 and 4 oppose
+//!     b"X:\0\0\0\0\x01\0\0\0\0\x05",                                 // 1 and 5 oppose
+//!     b"X:\0\0\0\0\x02\0\0\0\0\x05",                                 // 2 and 5 oppose
+//!     b"E:\0\x02",
+//! ]
+//! .concat();
+//! assert_eq!((source.len(), aspda::read_source(&source)?), (85, 2));
+//!
+//! let mut out = vec![0; aspda::translation_bound(&source)];
+//! assert_eq!(aspda::translate(&source, &mut out)?.len(), 433);
+//!
+//! // By the empty set nothing is left out, so that the quotient shows what was appended: here as the rules 3 to 5.
+//! let mut out = vec![0; aspda::quotient_bound(&source)];
+//! let quotient = aspda::quotient_source(&source, b"A:\0\0", &mut out)?;
+//! assert_eq!(aspda::read_plain(quotient)?, 5);
+//! let defeated_if_1 = b"S:\0\0\x01\x01\0\x02\0\x02\0\x04\0\0\0\0\x01"; // defeated (2, 4) if 1
+//! assert_eq!(aspda::show_plain(quotient, 3)?, defeated_if_1);
+//! assert_eq!(aspda::show_source(&source, 3).unwrap_err().number, 13);
 //! # Ok::<(), aspda::Refusal>(())
 //! ```
 #![deny(unsafe_code)]
@@ -87,17 +131,17 @@ fn shown(word: u64, program: &[u8]) -> Result<&[u8], Refusal> {
     Ok(&program[start as usize..][..length as usize])
 }
 
-/// The number of rules of a source.
+/// The number of rules of a source, those that are written.
 ///
 /// ```
 /// let m1 = b"D:\0\x07\x01\0\0\0\0\0\0\x01E:\0\x01"; // tag 7: 1
 /// assert_eq!(aspda::read_source(m1), Ok(1));
 /// let refusal = aspda::Refusal { number: 3, slice: aspda::Slice::Program, place: 0 };
-/// assert_eq!(aspda::read_source(b"X:"), Err(refusal));
+/// assert_eq!(aspda::read_source(b"Y:"), Err(refusal));
 /// ```
 ///
 /// # Errors
-/// Refusals 1 to 8.
+/// Refusals 1 to 8 and 14.
 pub fn read_source(program: &[u8]) -> Result<u32, Refusal> {
     counted(exports::read_source(program))
 }
@@ -106,8 +150,9 @@ pub fn read_source(program: &[u8]) -> Result<u32, Refusal> {
 ///
 /// ```
 /// assert_eq!(aspda::read_plain(b"E:\0\0"), Ok(0));
-/// // A plain program has no defeasible rule.
+/// // A plain program has no defeasible rule, and no preference sheets.
 /// assert_eq!(aspda::read_plain(b"D:\0\x07\x01\0\0\0\0\0\0\x01E:\0\x01").unwrap_err().number, 3);
+/// assert_eq!(aspda::read_plain(b"O:\0\x01\0\x02E:\0\0").unwrap_err().number, 3);
 /// ```
 ///
 /// # Errors
@@ -116,12 +161,25 @@ pub fn read_plain(program: &[u8]) -> Result<u32, Refusal> {
     counted(exports::read_plain(program))
 }
 
-/// The length of a buffer that suffices for a source's translation: thirteen times the source's.
-pub fn translation_bound(source: &[u8]) -> usize {
-    source.len().saturating_mul(13)
+/// What the rules that a program's preference sheets append can add to a result: 17 bytes for each, and at most two
+/// rules for each `O:` with each `X:`. There are no more such records than places where their mark's bytes stand.
+fn appended_bound(program: &[u8]) -> usize {
+    let count = |mark: &[u8; 2]| program.windows(2).filter(|bytes| bytes == mark).count();
+    count(b"O:").saturating_mul(count(b"X:")).saturating_mul(2 * 17)
 }
 
-/// Writes the translation of a source, a plain program. [`translation_bound`] gives a length that suffices.
+/// The length of a buffer that suffices for a source's translation: thirteen times the source's, and 34 more for each
+/// two records of its preference sheets, an `O:` and an `X:`.
+///
+/// ```
+/// assert_eq!(aspda::translation_bound(b"E:\0\0"), 52);
+/// ```
+pub fn translation_bound(source: &[u8]) -> usize {
+    source.len().saturating_mul(13).saturating_add(appended_bound(source))
+}
+
+/// Writes the translation of a source, a plain program. [`translation_bound`] gives a length that suffices. It uses
+/// about 220 KiB of stack.
 ///
 /// M1 of document 01: one defeasible rule with one option becomes five plain rules.
 ///
@@ -150,7 +208,7 @@ pub fn translation_bound(source: &[u8]) -> usize {
 /// ```
 ///
 /// # Errors
-/// Refusals 1 to 9.
+/// Refusals 1 to 9 and 14.
 pub fn translate<'o>(source: &[u8], out: &'o mut [u8]) -> Result<&'o mut [u8], Refusal> {
     written(Operation::Translate, exports::translate(source, out), out)
 }
@@ -169,7 +227,7 @@ pub const fn aspif_bound(length: usize) -> usize {
 ///
 /// A literal's number is its place among the literals that occur, ascending as byte strings, from 1. Atoms and negated
 /// atoms have a name, `p` or `n` with the atom in decimal; marks have none. The answer sets of the text are those of the
-/// program, number for number. It uses about 80 KiB of stack.
+/// program, number for number. It uses about 92 KiB of stack.
 ///
 /// ```
 /// let fact = b"S:\0\0\x01\0\0\0\0\0\0\x01E:\0\x01"; // 1
@@ -188,13 +246,15 @@ pub fn aspif<'o>(program: &[u8], out: &'o mut [u8]) -> Result<&'o mut [u8], Refu
     written(Operation::Aspif, exports::aspif(program, out), out)
 }
 
-/// The length of a buffer that suffices for a quotient: the program's.
+/// The length of a buffer that suffices for a quotient: the program's, and 34 more for each two records of its
+/// preference sheets, an `O:` and an `X:`.
 pub fn quotient_bound(program: &[u8]) -> usize {
-    program.len()
+    program.len().saturating_add(appended_bound(program))
 }
 
 /// Writes the quotient of a source by a set, as a program of strict rules. [`quotient_bound`] gives a length that
-/// suffices.
+/// suffices. With appended rules it may have more rules than a source has: it is a plain program. It uses about 220 KiB
+/// of stack.
 ///
 /// ```
 /// let source = b"S:\0\0\x01\0\x01\0\0\0\0\x01\0\0\0\0\x02E:\0\x01"; // 1 if not 2
@@ -207,7 +267,7 @@ pub fn quotient_bound(program: &[u8]) -> usize {
 /// ```
 ///
 /// # Errors
-/// Refusals 1 to 12; a refusal of the program comes before one of the set.
+/// Refusals 1 to 12 and 14; a refusal of the program comes before one of the set.
 pub fn quotient_source<'o>(program: &[u8], set: &[u8], out: &'o mut [u8]) -> Result<&'o mut [u8], Refusal> {
     written(Operation::Quotient, exports::quotient_source(program, set, out), out)
 }
@@ -232,7 +292,7 @@ pub fn quotient_plain<'o>(program: &[u8], set: &[u8], out: &'o mut [u8]) -> Resu
 pub const EXTENSION_BOUND: usize = 25_484;
 
 /// Writes the extension of a source's set: the set with its derivation and rule-defeated marks, a plain set.
-/// [`EXTENSION_BOUND`] bytes suffice. It uses about 66 KiB of stack.
+/// [`EXTENSION_BOUND`] bytes suffice. It uses about 266 KiB of stack.
 ///
 /// M5 of document 01: two rules share tag 7, and the first one's option is defeated.
 ///
@@ -249,7 +309,7 @@ pub const EXTENSION_BOUND: usize = 25_484;
 /// ```
 ///
 /// # Errors
-/// Refusals 1 to 12; a refusal of the program comes before one of the set.
+/// Refusals 1 to 12 and 14; a refusal of the program comes before one of the set.
 pub fn extend<'o>(source: &[u8], set: &[u8], out: &'o mut [u8]) -> Result<&'o mut [u8], Refusal> {
     written(Operation::Extend, exports::extend(source, set, out), out)
 }
@@ -283,7 +343,7 @@ pub fn witness_bound(set: &[u8]) -> usize {
 /// Is the set an answer set of the source? `out` is at least as long as the set ([`witness_bound`]), whatever the
 /// verdict; only [`Verdict::Smaller`] writes to it.
 ///
-/// It uses about 24 KiB of stack.
+/// It uses about 356 KiB of stack: a thread with less, say 256 KiB, is too small for it.
 ///
 /// M6 to M9 of document 01:
 ///
@@ -310,13 +370,13 @@ pub fn witness_bound(set: &[u8]) -> usize {
 /// ```
 ///
 /// # Errors
-/// Refusals 1 to 12; 12 for more than 64 literals. A refusal of the program comes before one of the set.
+/// Refusals 1 to 12 and 14; 12 for more than 64 literals. A refusal of the program comes before one of the set.
 pub fn check_source<'o>(program: &[u8], set: &[u8], out: &'o mut [u8]) -> Result<Verdict<'o>, Refusal> {
     Verdict::from_word(exports::check_source(program, set, out), out)
 }
 
-/// Is the set, of plain literals, an answer set of the plain program? As [`check_source`], but it uses about
-/// 220 KiB of stack: a thread with less, say 128 KiB, is too small for it.
+/// Is the set, of plain literals, an answer set of the plain program? As [`check_source`]; it uses about 348 KiB of
+/// stack.
 ///
 /// ```
 /// let program = b"S:\0\0\x01\0\0\x04\0\x07\0\x01E:\0\x01"; // derived (7, 1)
@@ -332,7 +392,7 @@ pub fn check_plain<'o>(program: &[u8], set: &[u8], out: &'o mut [u8]) -> Result<
     Verdict::from_word(exports::check_plain(program, set, out), out)
 }
 
-/// The record of a source's rule, a part of the program. Rules are numbered from 1.
+/// The record of a source's rule, a part of the program. The rules that are written are numbered from 1.
 ///
 /// ```
 /// let m1 = b"D:\0\x07\x01\0\0\0\0\0\0\x01E:\0\x01"; // tag 7: 1
@@ -341,7 +401,7 @@ pub fn check_plain<'o>(program: &[u8], set: &[u8], out: &'o mut [u8]) -> Result<
 /// ```
 ///
 /// # Errors
-/// Refusals 1 to 8 and 13.
+/// Refusals 1 to 8, 13 and 14.
 pub fn show_source(program: &[u8], rule: u32) -> Result<&[u8], Refusal> {
     shown(exports::show_source(program, rule), program)
 }

@@ -19,9 +19,9 @@ pub enum Slice {
 pub enum Part {
     /// The slice as a whole; the place is 0.
     Whole,
-    /// A record: a rule's, or a program's end record.
+    /// A record: a rule's, a preference sheet's, or a program's end record.
     Record,
-    /// A literal of a rule or of the set.
+    /// A literal of a rule, of a preference sheet or of the set.
     Literal,
 }
 
@@ -44,26 +44,27 @@ impl Operation {
         Refusal { number, slice: self.slice(number), place }
     }
 
-    /// The slice that a number speaks of: document 01, "Operations and what each refuses"; document 02, ask 1.
+    /// The slice that a number speaks of: document 01, "Operations and what each refuses"; document 02, asks 1 and 2.
     fn slice(self, number: u8) -> Slice {
         use Operation::*;
         match (self, number) {
             (Translate | Aspif | Quotient | Extend | Restrict | Check, 9) => Slice::Output,
             (Quotient | Extend | Check, 10..=12) | (Restrict, _) => Slice::Set,
-            // 1 to 8; and 13, for it is the program that has no such rule.
+            // 1 to 8 and 14; and 13, for it is the program that has no such rule.
             (Read | Show | Translate | Aspif | Quotient | Extend | Check, _) => Slice::Program,
         }
     }
 }
 
-/// A refusal: document 01's number of the reason, the slice that it speaks of, and the byte offset of its place there.
+/// A refusal: the number of the reason in documents 01 and 02, the slice that it speaks of, and the byte offset of its
+/// place there.
 ///
 /// | Number | Slice | Part | Operations |
 /// |---|---|---|---|
 /// | 1 | program | whole | all but restrict |
 /// | 2, 3, 4, 6, 8 | program | record | all but restrict |
 /// | 5 | program | literal | all but restrict |
-/// | 7 | program | record | all on sources |
+/// | 7, 14 | program | record | all on sources |
 /// | 9 | output | whole | translate, aspif, quotient, extend, restrict, check |
 /// | 10, 12 | set | whole | quotient, extend, restrict, check |
 /// | 11 | set | literal | quotient, extend, restrict, check |
@@ -80,10 +81,14 @@ impl Operation {
 /// // The second literal of the set is not above the first.
 /// let refusal = aspda::restrict(b"A:\0\x02\0\0\0\0\x02\0\0\0\0\x01", &mut []).unwrap_err();
 /// assert_eq!((refusal.slice, refusal.part(), refusal.place), (Slice::Set, Part::Literal, 9));
+///
+/// // A preference sheet in which tag 7 would override itself.
+/// let refusal = aspda::read_source(b"O:\0\x07\0\x07E:\0\0").unwrap_err();
+/// assert_eq!((refusal.number, refusal.part(), refusal.place), (14, Part::Record, 0));
 /// ```
 #[derive(Clone, Copy, Debug, PartialEq, Eq, Hash)]
 pub struct Refusal {
-    /// Document 01's number of the reason, 1 to 13.
+    /// The number of the reason in documents 01 and 02, 1 to 14.
     pub number: u8,
     /// The slice of the call that the refusal speaks of.
     pub slice: Slice,
@@ -103,9 +108,9 @@ impl Refusal {
             1 => "the program is longer than its form allows",
             2 => "a record is cut short",
             3 => "the mark is none of the form's records",
-            4 => "one rule too many, or a rule has more head, positive or naf literals than its form takes",
+            4 => "one rule or sheet record too many, or too many head, positive or naf literals in a rule",
             5 => "a literal's kind, tag or number is not one that the form takes",
-            6 => "a rule's tag is out of range",
+            6 => "a rule's or a sheet's tag is out of range",
             7 => "a defeasible rule has no head, or a defeat mark in its head",
             8 => "the end record counts the rules wrongly, or bytes follow it",
             9 => "the output slice is too short",
@@ -113,6 +118,7 @@ impl Refusal {
             11 => "a literal of the set is not one that the form takes, or not above the one before it",
             12 => "the set has too many literals",
             13 => "the program has no rule of this number",
+            14 => "a tag overrides itself, or an option opposes itself",
             _ => "a reason that this crate does not know",
         }
     }
@@ -126,12 +132,12 @@ impl Refusal {
     /// // The rule's head is atom 501.
     /// let refusal = aspda::read_source(b"S:\0\0\x01\0\0\0\0\0\x01\xF5E:\0\x01").unwrap_err();
     /// assert_eq!((refusal.part(), refusal.place), (Part::Literal, 7));
-    /// // A source has at most 63,236 bytes.
-    /// assert_eq!(aspda::read_source(&[0; 63_237]).unwrap_err().part(), Part::Whole);
+    /// // A source has at most 64,388 bytes.
+    /// assert_eq!(aspda::read_source(&[0; 64_389]).unwrap_err().part(), Part::Whole);
     /// ```
     pub fn part(&self) -> Part {
         match self.number {
-            2 | 3 | 4 | 6 | 7 | 8 => Part::Record,
+            2 | 3 | 4 | 6 | 7 | 8 | 14 => Part::Record,
             5 | 11 => Part::Literal,
             _ => Part::Whole,
         }

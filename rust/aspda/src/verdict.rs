@@ -14,7 +14,8 @@ pub enum Verdict<'o> {
     Yes,
     /// The position in the set, from 1, of the first literal whose opposite is in the set.
     Clash(u32),
-    /// The number, from 1, of the first rule whose remainder in the quotient does not hold.
+    /// The number, from 1, of the first rule whose remainder in the quotient does not hold. The rules that preference
+    /// sheets append are counted behind the written ones.
     Broken(u32),
     /// An `A:` record: the first proper subset that is a model of the quotient, subsets being compared literal by
     /// literal, absent before present.

@@ -5,7 +5,7 @@
 mod limits;
 
 use aspda::{Part, Refusal, Slice};
-use limits::{PLAIN, SOURCE};
+use limits::{APPENDED_RULE, PLAIN, SOURCE};
 use std::collections::BTreeSet;
 
 const ONE: &[u8] = b"S:\0\0\x01\0\0\0\0\0\0\x01E:\0\x01"; // 1
@@ -35,9 +35,9 @@ struct Operation {
     literals: usize,
 }
 
-const READ_SOURCE: &[u8] = &[1, 2, 3, 4, 5, 6, 7, 8];
+const READ_SOURCE: &[u8] = &[1, 2, 3, 4, 5, 6, 7, 8, 14];
 const READ_PLAIN: &[u8] = &[1, 2, 3, 4, 5, 6, 8];
-const SHOW_SOURCE: &[u8] = &[1, 2, 3, 4, 5, 6, 7, 8, 13];
+const SHOW_SOURCE: &[u8] = &[1, 2, 3, 4, 5, 6, 7, 8, 13, 14];
 const SHOW_PLAIN: &[u8] = &[1, 2, 3, 4, 5, 6, 8, 13];
 const SET: &[u8] = &[10, 11, 12];
 const OUTPUT: &[u8] = &[9];
@@ -92,17 +92,18 @@ impl Operation {
     }
 }
 
-/// A program that both forms refuse by this number (7 the source form alone), and what is wrong in it.
+/// A program that both forms refuse by this number (7 and 14 the source form alone), and what is wrong in it.
 fn faulty_program(number: u8) -> (Vec<u8>, (Part, u32)) {
     let program: (&[u8], (Part, u32)) = match number {
         1 => return (vec![0; PLAIN.length + 1], (Part::Whole, 0)),
         2 => (b"S:\0\0\0\0\0S:\0", (Part::Record, 7)),
-        3 => (b"S:\0\0\0\0\0X:", (Part::Record, 7)),
+        3 => (b"S:\0\0\0\0\0Y:", (Part::Record, 7)),
         4 => (b"S:\0\0\0\0\0S:\0\0\x11\0\0", (Part::Record, 7)),
         5 => (b"S:\0\0\x01\0\0\0\0\0\x01\xF5E:\0\x01", (Part::Literal, 7)),
         6 => (b"S:\0\0\0\0\0S:\0\x01\0\0\0", (Part::Record, 7)),
         7 => (b"S:\0\0\0\0\0D:\0\x01\0\0\0E:\0\x02", (Part::Record, 7)),
         8 => (b"S:\0\0\0\0\0E:\0\x02", (Part::Record, 7)),
+        14 => (b"S:\0\0\0\0\0X:\x01\0\0\0\x03\x01\0\0\0\x03E:\0\x01", (Part::Record, 7)),
         _ => panic!("{number} is no number of a program's bytes"),
     };
     (program.0.to_vec(), program.1)
@@ -138,7 +139,7 @@ fn what_each_operation_takes_is_refused_by_none() {
 }
 
 #[test]
-fn numbers_1_to_8_and_13_speak_of_the_program() {
+fn numbers_1_to_8_13_and_14_speak_of_the_program() {
     let mut reached = 0;
     for operation in operations() {
         for &number in operation.program {
@@ -156,7 +157,7 @@ fn numbers_1_to_8_and_13_speak_of_the_program() {
             operation.refuses(&all_wrong, number, Slice::Program, wrong);
         }
     }
-    assert_eq!(reached, 8 + 7 + 9 + 8 + 8 + 7 + 8 + 7 + 8 + 8 + 7);
+    assert_eq!(reached, 9 + 7 + 10 + 8 + 9 + 7 + 9 + 7 + 9 + 9 + 7);
 }
 
 #[test]
@@ -238,7 +239,73 @@ fn a_refusal_leaves_the_buffer() {
 #[test]
 fn each_number_has_a_reason_of_its_own() {
     let reason = |number| Refusal { number, slice: Slice::Program, place: 0 }.reason();
-    let reasons: BTreeSet<_> = (1..=13).map(reason).collect();
-    assert_eq!(reasons.len(), 13);
-    assert!(!reasons.contains(reason(14)));
+    let reasons: BTreeSet<_> = (1..=14).map(reason).collect();
+    assert_eq!(reasons.len(), 14);
+    assert!(!reasons.contains(reason(15)));
+}
+
+const OVERRIDE: &[u8] = b"O:\0\x01\0\x02"; // tag 1 overrides tag 2
+const OPPOSITION: &[u8] = b"X:\0\0\0\0\x01\x01\0\0\0\x02"; // 1 and -2 oppose
+
+/// Of a record of a preference sheet, in order: 4 for one too many, 2 if it is cut, 6 and 5, 14.
+#[test]
+fn a_sheet_is_refused_at_its_place() {
+    let refused = |program: &[u8]| {
+        let refusal = aspda::read_source(program).unwrap_err();
+        (refusal.number, refusal.part(), refusal.place)
+    };
+    let tags = |upper, lower| [b"S:\0\0\0\0\0O:", &[0, upper, 0, lower][..], b"E:\0\x01"].concat();
+    assert_eq!(aspda::read_source(&tags(1, SOURCE.tags as u8)), Ok(1));
+    for (upper, lower) in [(0, 1), (1, 0), (0, 0), (SOURCE.tags as u8 + 1, 1)] {
+        assert_eq!(refused(&tags(upper, lower)), (6, Part::Record, 7));
+    }
+    assert_eq!(refused(&tags(7, 7)), (14, Part::Record, 7));
+
+    let options = |first: [u8; 5], second: [u8; 5]| [b"X:", &first[..], &second, b"E:\0\0"].concat();
+    let (one, none, mark) = ([0, 0, 0, 0, 1], [0, 0, 0, 0, 0], [2, 0, 1, 0, 1]);
+    assert_eq!(aspda::read_source(&options(one, [1, 0, 0, 0, 1])), Ok(0));
+    assert_eq!(refused(&options(none, mark)), (5, Part::Literal, 2));
+    assert_eq!(refused(&options(one, mark)), (5, Part::Literal, 7));
+    assert_eq!(refused(&options(mark, mark)), (5, Part::Literal, 2));
+    assert_eq!(refused(&options(one, one)), (14, Part::Record, 0));
+
+    for record in [OVERRIDE, OPPOSITION] {
+        let full = record.repeat(SOURCE.sheets);
+        assert_eq!(aspda::read_source(&[&full[..], b"E:\0\0"].concat()), Ok(0));
+        for rest in [&record[..2], record] {
+            assert_eq!(refused(&[&full[..], rest].concat()), (4, Part::Record, full.len() as u32));
+        }
+        for length in 1..record.len() {
+            assert_eq!(refused(&record[..length]), (2, Part::Record, 0));
+        }
+        assert_eq!(refused(&[b"E:\0\0", record].concat()), (8, Part::Record, 0));
+        assert_eq!(aspda::read_plain(&[record, b"E:\0\0"].concat()).unwrap_err().number, 3);
+    }
+}
+
+/// The bounds of a translation and of a quotient count what is appended, and nothing where there are no sheets.
+#[test]
+fn bounds_suffice_with_sheets() {
+    assert_eq!(aspda::translation_bound(ONE), 13 * ONE.len());
+    assert_eq!(aspda::quotient_bound(ONE), ONE.len());
+    let options: Vec<u8> = (1..=12).flat_map(|atom| [0, 0, 0, 0, atom]).collect();
+    let mut source = Vec::new();
+    let sheets = SOURCE.sheets as u8;
+    for tag in 1..=sheets + 1 {
+        source.extend([b'D', b':', 0, tag, 12, 0, 0]);
+        source.extend(&options);
+    }
+    source.extend((2..=sheets + 1).flat_map(|lower| [b'O', b':', 0, 1, 0, lower]));
+    let pairs = (1..=12).flat_map(|one| (1..one).map(move |other| [b'X', b':', 0, 0, 0, 0, one, 0, 0, 0, 0, other]));
+    source.extend(pairs.take(SOURCE.sheets).flatten());
+    source.extend([b'E', b':', 0, sheets + 1]);
+
+    let appended = 2 * SOURCE.sheets * SOURCE.sheets;
+    let mut out = vec![0; aspda::quotient_bound(&source)];
+    let quotient = aspda::quotient_source(&source, EMPTY, &mut out).unwrap();
+    assert_eq!(aspda::read_plain(quotient), Ok(SOURCE.sheets as u32 + 1 + appended as u32));
+    let mut out = vec![0; aspda::translation_bound(&source)];
+    let translation = aspda::translate(&source, &mut out).unwrap();
+    // Each of the rules has twelve options.
+    assert_eq!(translation.len(), 4 + (SOURCE.sheets + 1) * (66 * 12 + 24) + APPENDED_RULE * appended);
 }

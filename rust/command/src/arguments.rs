@@ -15,6 +15,7 @@ pub enum Operation {
     Check,
     Convert,
     Aspif,
+    Expand,
 }
 
 /// Why there is no result, in words, and the exit status that tells it.
@@ -52,7 +53,7 @@ enum Output {
     Required,
 }
 
-const COMMANDS: [Command; 9] = [
+const COMMANDS: [Command; 10] = [
     Command {
         name: "read",
         operation: Operation::Read,
@@ -156,6 +157,21 @@ const COMMANDS: [Command; 9] = [
                   \x20 aspda translate SOURCE -o - | aspda aspif - | clingo --mode=clasp --no-gamma --eq=0 0\n\
                   The text is the same in a FILE of any name. The exit status is 0 if the text was written, else 2.",
     },
+    Command {
+        name: "expand",
+        operation: Operation::Expand,
+        plain: false,
+        operands: &["SOURCE"],
+        output: Output::Optional,
+        failure: REFUSED_OR_MISUSED,
+        about: "the rules that a source's preference sheets append",
+        details: "Prints the strict rules that are made of `tag 1 overrides tag 2.` and `1 and 4 oppose.`: where a rule\n\
+                  with tag 1 has option 1 and one with tag 2 has option 4, `defeated(2, 4) if 1.`, and the same with 1 and\n\
+                  4 exchanged. Behind each stand its number, counted behind the source's own rules as `check` counts, and\n\
+                  the two records that made it, with their lines (of a source in bytes their first bytes). Every command\n\
+                  means these rules too, but read and show count and show those alone that are written. With -o FILE they\n\
+                  are a program of their own. The exit status is 0 if the rules were written, else 2.",
+    },
 ];
 
 const FILES: &str = "\
@@ -163,7 +179,7 @@ A file whose name ends in .txt holds text, every other file holds bytes. A SET m
 as '{1, -2}'. With -o FILE the result goes to FILE, as text if its name ends in .txt, else as bytes;
 without -o it is listed on standard output. `-` in place of a file is standard input, behind -o
 standard output, and holds bytes. --plain: the program is a plain one, not a source.
-The exit status is 0 if the operation gave its result (check: yes), else 1, of aspif else 2.
+The exit status is 0 if the operation gave its result (check: yes), else 1, of aspif and expand else 2.
 ";
 
 const TEXT: &str = "\
@@ -175,6 +191,8 @@ The text form:
     1 or defeated(3, 2) if 5 and not -6.   a strict rule
     never if 1 and 2.                      a strict rule without head
     1.                                     a fact
+    tag 3 overrides tag 4.                 a preference sheet: rules of one tag before those of another,
+    1 and -2 oppose.                       and two options, of which one speaks against the other
     {1, -2, defeated(3, 2)}                a set
 Literals: 12, -12, defeated(TAG, 12), derived(TAG, -12), rule-defeated(RULE).
 ";

@@ -1,8 +1,9 @@
 //! What each command does: loads its operands, asks the library, lists or writes the answer.
 
 use crate::arguments::{Operation, Request};
+use crate::expansion::Expansion;
 use crate::files::{self, Either, Program, Set};
-use crate::limits::{Limits, PLAIN};
+use crate::limits::{Limits, PLAIN, SOURCE};
 use crate::text::{self, Names};
 use aspda::{Refusal, Slice, Verdict};
 
@@ -29,6 +30,7 @@ pub fn run(request: &Request) -> Answer {
         Operation::Check => check(request),
         Operation::Convert => convert(request),
         Operation::Aspif => aspif(request),
+        Operation::Expand => expand(request),
     }
 }
 
@@ -45,6 +47,13 @@ impl Form {
             Form::Plain
         } else {
             Form::Source
+        }
+    }
+
+    fn limits(self) -> &'static Limits {
+        match self {
+            Form::Source => &SOURCE,
+            Form::Plain => &PLAIN,
         }
     }
 
@@ -199,9 +208,15 @@ fn clash(position: u32, set: &Set, names: &Names) -> String {
 }
 
 fn broken(form: Form, rule: u32, program: &Program) -> Result<String, String> {
-    let record = form.show(&program.bytes, rule).map_err(|refusal| program.refused(refusal))?;
-    let listed = text::list_rule(&text::decode_rule(record), &program.names);
-    Ok(format!("broken: what the quotient keeps of rule {rule} does not hold in the set\n{listed}\n"))
+    let refused = |refusal| program.refused(refusal);
+    let listed = if rule <= form.read(&program.bytes).map_err(refused)? {
+        let record = form.show(&program.bytes, rule).map_err(refused)?;
+        text::list_rule(&text::decode_rule(record), &program.names) + "\n"
+    } else {
+        // The source's sheets append it.
+        Expansion::of(program).map_err(refused)?.list_rule(rule as usize).unwrap_or_default()
+    };
+    Ok(format!("broken: what the quotient keeps of rule {rule} does not hold in the set\n{listed}"))
 }
 
 fn convert(request: &Request) -> Answer {
@@ -221,12 +236,15 @@ fn convert(request: &Request) -> Answer {
     }
 }
 
+fn expand(request: &Request) -> Answer {
+    let source = files::load_program(&request.operands[0])?;
+    let expansion = Expansion::of(&source).map_err(|refusal| refused_by_limit(refusal, &source, Form::Source))?;
+    deliver(request, &expansion.bytes(), || expansion.list())
+}
+
 fn aspif(request: &Request) -> Answer {
     let program = files::load_program(&request.operands[0])?;
-    let refused = |refusal: Refusal| match passed_limit(refusal, &PLAIN) {
-        Some(limit) => format!("{}; {limit}", program.refused(refusal)),
-        None => program.refused(refusal),
-    };
+    let refused = |refusal| refused_by_limit(refusal, &program, Form::Plain);
     // Read first: a file of any length is refused before a buffer is made for it.
     aspda::read_plain(&program.bytes).map_err(refused)?;
     let mut out = vec![0; aspda::aspif_bound(program.bytes.len())];
@@ -240,18 +258,37 @@ fn aspif(request: &Request) -> Answer {
     }
 }
 
-/// What a plain program may have at most, where that is what the refusal is about.
-fn passed_limit(refusal: Refusal, limits: &Limits) -> Option<String> {
-    let Limits { length, rules, heads, positives, nafs, atoms, tags, numbers, .. } = limits;
-    Some(match refusal.number {
-        1 => format!("a plain program has at most {length} bytes"),
-        3 => "a plain program has strict rules and its end alone, a source is translated first".to_owned(),
-        4 => format!(
-            "a plain program has at most {rules} rules, each with at most {heads} head, {positives} positive and \
-             {nafs} naf literals"
-        ),
-        5 => format!("atoms run from 1 to {atoms}, tags from 1 to {tags}, rule numbers from 1 to {numbers}"),
-        6 => "a strict rule has tag 0".to_owned(),
+/// A refusal of a program in words, with the limit that is passed.
+fn refused_by_limit(refusal: Refusal, program: &Program, form: Form) -> String {
+    match passed_limit(refusal, form) {
+        Some(limit) => format!("{}; {limit}", program.refused(refusal)),
+        None => program.refused(refusal),
+    }
+}
+
+/// What a program of the form may have at most, where that is what the refusal is about.
+fn passed_limit(refusal: Refusal, form: Form) -> Option<String> {
+    let Limits { length, rules, heads, positives, nafs, atoms, tags, numbers, sheets, .. } = form.limits();
+    let counts = format!("each with at most {heads} head, {positives} positive and {nafs} naf literals");
+    Some(match (refusal.number, form) {
+        (1, Form::Source) => format!("a source has at most {length} bytes"),
+        (1, Form::Plain) => format!("a plain program has at most {length} bytes"),
+        (3, Form::Source) => "a source has rules, preference sheets and its end alone".to_owned(),
+        (3, Form::Plain) => {
+            "a plain program has strict rules and its end alone, a source is translated first".to_owned()
+        }
+        (4, Form::Source) => {
+            format!("a source has at most {rules} rules, {counts}, and {sheets} overrides and {sheets} oppositions")
+        }
+        (4, Form::Plain) => format!("a plain program has at most {rules} rules, {counts}"),
+        (5, Form::Source) => {
+            format!("atoms run from 1 to {atoms}, tags from 1 to {tags}; options are atoms and their negations")
+        }
+        (5, Form::Plain) => {
+            format!("atoms run from 1 to {atoms}, tags from 1 to {tags}, rule numbers from 1 to {numbers}")
+        }
+        (6, Form::Source) => format!("tags run from 1 to {tags}, and a strict rule has tag 0"),
+        (6, Form::Plain) => "a strict rule has tag 0".to_owned(),
         _ => return None,
     })
 }

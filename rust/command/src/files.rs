@@ -1,6 +1,6 @@
 //! Programs and sets from files or from the command line, and results into files.
 
-use crate::text::{self, Encoded, Names, Parsed};
+use crate::text::{self, Encoded, Item, Names, Parsed};
 use aspda::{Part, Refusal};
 use std::ffi::OsStr;
 use std::fs;
@@ -14,8 +14,15 @@ pub struct Program {
     file: String,
     pub bytes: Vec<u8>,
     pub names: Names,
-    /// Of each rule that was written as text: where its record lies, and its line.
-    rules: Vec<(Range<usize>, usize)>,
+    /// Of a program that was written as text.
+    written: Option<Written>,
+}
+
+/// A program's items as its text gives them, where the record of each lies, and its line.
+struct Written {
+    items: Vec<Item>,
+    records: Vec<Range<usize>>,
+    lines: Vec<usize>,
 }
 
 /// A set's record.
@@ -122,30 +129,47 @@ pub fn write(path: &Path, bytes: &[u8]) -> Result<(), String> {
 impl Program {
     fn new(file: String, content: Content) -> Result<Program, String> {
         let text = match content {
-            Content::Bytes(bytes) => return Ok(Program { file, bytes, names: Names::default(), rules: Vec::new() }),
+            Content::Bytes(bytes) => return Ok(Program { file, bytes, names: Names::default(), written: None }),
             Content::Text(text) => text,
         };
-        let Parsed { rules, lines, names } = text::parse_program(&text).map_err(|error| format!("{file}: {error}"))?;
-        let Encoded { bytes, records } = text::encode_program(&rules);
-        Ok(Program { file, bytes, names, rules: records.into_iter().zip(lines).collect() })
+        let Parsed { items, lines, names } = text::parse_program(&text).map_err(|error| format!("{file}: {error}"))?;
+        let Encoded { bytes, records } = text::encode_program(&items);
+        Ok(Program { file, bytes, names, written: Some(Written { items, records, lines }) })
     }
 
-    /// A refusal of this program in words; of a rule that was written as text with its number and line.
+    /// A refusal of this program in words; of an item that was written as text with what it is and its line.
     pub fn refused(&self, refusal: Refusal) -> String {
-        match self.refused_rule(refusal) {
-            Some(index) => format!("{}: {refusal} (rule {}, line {})", self.file, index + 1, self.rules[index].1),
+        match self.written.as_ref().and_then(|written| written.refused(refusal)) {
+            Some(item) => format!("{}: {refusal} ({item})", self.file),
             None => format!("{}: {refusal}", self.file),
         }
     }
 
-    /// The index of the rule whose record holds what is refused.
-    fn refused_rule(&self, refusal: Refusal) -> Option<usize> {
-        match refusal.part() {
-            Part::Whole => None,
-            Part::Record | Part::Literal => {
-                self.rules.iter().position(|(record, _)| record.contains(&(refusal.place as usize)))
-            }
+    /// Where each of its items, which are given, begins: the line in its text, else the first byte.
+    pub fn places(&self, items: &[Item]) -> Vec<String> {
+        match &self.written {
+            Some(written) => written.lines.iter().map(|line| format!("line {line}")).collect(),
+            None => text::encode_program(items).records.iter().map(|record| format!("byte {}", record.start)).collect(),
         }
+    }
+}
+
+impl Written {
+    /// The item whose record holds what is refused, in words.
+    fn refused(&self, refusal: Refusal) -> Option<String> {
+        if refusal.part() == Part::Whole {
+            return None;
+        }
+        let index = self.records.iter().position(|record| record.contains(&(refusal.place as usize)))?;
+        let what = match self.items[index] {
+            Item::Rule(_) => {
+                let rules = self.items[..=index].iter().filter(|item| item.is_rule()).count();
+                format!("rule {rules}")
+            }
+            Item::Override(..) => "override".to_owned(),
+            Item::Opposition(..) => "opposition".to_owned(),
+        };
+        Some(format!("{what}, line {}", self.lines[index]))
     }
 }
 

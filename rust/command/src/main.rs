@@ -2,6 +2,7 @@
 
 mod arguments;
 mod commands;
+mod expansion;
 mod files;
 #[path = "../../limits.rs"]
 mod limits;

@@ -27,6 +27,7 @@ use Rattle.record.specs.Layout.{keeps}
 use Rattle.record.specs.Reading.{parsed}
 use Rattle.record.proofs.Laws.Bounds.{parsed-short}
 use Rattle.record.proofs.Laws.Reading.{parsed-sound}
+use Rattle.record.proofs.Laws.Meant.{plain-unsheeted}
 use Rattle.record.proofs.Laws.Keeps.{kept-program}
 use Rattle.record.proofs.Laws.Result.{accepted-and-then}
 use Rattle.record.proofs.Laws.Delivered.{delivered-fits}
@@ -70,7 +71,7 @@ names-of-text p xs e = ap outputsOf (sym (said p xs e)) ∙ outputs-of-statement
 
 module _ (b : List ℕ) (p : Program) (bytes : Bytes b) (read : parsed plain b ≡ accepted p) where
   within : T (keeps plain p)
-  within = parsed-sound plain b p bytes read .1
+  within = parsed-sound plain plain-unsheeted b p bytes read .1
 
   each-kept : T (eachOf (keepsRule plain) p)
   each-kept = kept-program plain p within .each
@@ -87,7 +88,7 @@ module _ (b : List ℕ) (p : Program) (bytes : Bytes b) (read : parsed plain b �
   -- the text's length
   pub text-bound : length (aspifText p) ≤ 2 * length b + 29012
   unfolding plain
-  text-bound = omega (arith, text-enough plain exportable-plain p within, ap length (parsed-sound plain b p bytes read .0))
+  text-bound = omega (arith, text-enough plain exportable-plain p within, ap length (parsed-sound plain plain-unsheeted b p bytes read .0))
 
   -- the answer sets match by number those of what the text says
   pub text-match : (xs : List Statement) → says (aspifText p) ≡ some xs → NumberMatch p (numberOf p) (rulesOf xs)

@@ -13,6 +13,8 @@ use Rattle.literal.specs.declared.Literal.{Literal}
 use Rattle.semantics.specs.Rule.{Program}
 use Rattle.semantics.specs.Verdict.{Finding, clash, broken, smaller, answerSet, finding}
 use Rattle.semantics.specs.Findings.{Part, nil, absent, present}
+use Rattle.semantics.specs.Form.{mostAppended}
+use Rattle.semantics.proofs.Laws.Expanded.{expanded-few}
 use Rattle.semantics.proofs.Laws.Verdict.{finding-clash, finding-broken, finding-smaller}
 use Rattle.record.specs.declared.Reason.the-variants.{OutputShort}
 use Rattle.record.specs.Refusal.{refusal}
@@ -20,6 +22,7 @@ use Rattle.record.specs.Result.{Result, accepted, refused, andThen, refuseIf}
 use Rattle.record.specs.Reading.{parsed}
 use Rattle.record.proofs.Laws.Bounds.{parsed-placed}
 use Rattle.record.proofs.Laws.Places.{Placed}
+use Rattle.record.proofs.Laws.Meant.{parsed-expanded}
 use Rattle.set.specs.Reading.{parsedSet}
 use Rattle.set.proofs.Laws.Reading.{parsed-set-sound, keeps-set-most, length-encoded-set}
 use Rattle.set.proofs.Laws.Places.{parsed-set-placed}
@@ -28,7 +31,6 @@ use Rattle.check_set.specs.declared.Check.{Check}
 use Rattle.check_set.specs.Verdict.{verdictOf}
 use Rattle.check_set.specs.Check.{found, checkedOf, checked}
 use Rattle.aspda_word.specs.Code.{ShortVerdict, ShortCheck}
-use Rattle.aspda.proofs.Laws.Lengths.{read-few}
 
 -- a part is no longer than its list
 part-short : {s ls : List Literal} → Part s ls → length s ≤ length ls
@@ -48,7 +50,7 @@ module _ (p : Program) (ls : List Literal) (few : length p < 4294967296) (small 
   finding-short (smaller s) e = omega (arith, part-short (finding-smaller p ls s .0 e .part), length-encoded-set s)
   finding-short answerSet e = tt
 
-module _ (F : Limits) (long : F .length < 4294967296) (rules : F .rules < 4294967296) (sets : 4 + 5 * F .checked < 4294967296)
+module _ (F : Limits) (long : F .length < 4294967296) (rules : F .rules + mostAppended F < 4294967296) (sets : 4 + 5 * F .checked < 4294967296)
     (s k out : List ℕ) (bs : Bytes s) (bk : Bytes k) where
   Short : Result Finding → Type 0
   Short (accepted f) = ShortVerdict (verdictOf f)
@@ -62,7 +64,7 @@ module _ (F : Limits) (long : F .length < 4294967296) (rules : F .rules < 429496
           → Short (refuseIf b (refusal OutputShort 0) (accepted (finding p ls)))
       room p ls e q true = omega arith
       room p ls e q false =
-          finding-short p ls (omega (arith, rules, read-few F s p bs e))
+          finding-short p ls (omega (arith, rules, expanded-few F p (parsed-expanded F s p bs e)))
           (omega (arith, sets, keeps-set-most F (F .checked) ls (parsed-set-sound F (F .checked) k ls bk q .1))) (finding p ls) refl
 
       set : (p : Program) → parsed F s ≡ accepted p → (r : Result (List Literal)) → parsedSet F (F .checked) k ≡ r

@@ -23,7 +23,7 @@ use Rattle.record.specs.Result.{Result, accepted, andThen, delivered}
 use Rattle.record.specs.Layout.{keeps}
 use Rattle.record.specs.Reading.{parsed, reading}
 use Rattle.record.specs.Meets.{Meets}
-use Rattle.record.proofs.Laws.Reading.{read-count, read-refused}
+use Rattle.record.proofs.Laws.Meant.{reading-refused, parsed-refused, reading-rules}
 use Rattle.record.proofs.Laws.Delivered.{meets-refused, meets-short, meets-written}
 use Rattle.record_walk.specs.Code.{Holds}
 use Rattle.record_walk.proofs.Laws.Walk.{holds-read}
@@ -97,18 +97,18 @@ own-numbers F ok p k bits marks out {r} {e} m = subst (λ (bs : List ℕ). Meets
 module _ (F : Limits) (s out : List ℕ) where
   -- what reading refuses, exporting does
   pub refused-met : (x : Refusal) → reading F s ≡ Reading.Refused x → Meets (exported F s out) (Refused x) out
-  unfolding reading exported aspifBytes andThen
+  unfolding exported aspifBytes andThen
   refused-met x e =
-      meets-refused (aspifBytes F s) out x (ap (λ (q : Result Program). andThen q (λ p. accepted (aspifText p))) (read-refused (parsed F s) x e))
+      meets-refused (aspifBytes F s) out x
+      (ap (λ (q : Result Program). andThen q (λ p. accepted (aspifText p))) (parsed-refused F s x (reading-refused F s x e)))
 
-  module _ (bytes : Bytes s) (count : ℕ) (e : reading F s ≡ Reading.Count count) where
+  module _ (none : F .sheets ≡ 0) (bytes : Bytes s) (count : ℕ) (e : reading F s ≡ Reading.Count count) where
     told : (p : Program) × (parsed F s ≡ accepted p) × (length p ≡ count)
-    unfolding reading
-    told = read-count (parsed F s) count e
+    told = reading-rules F s none bytes count e
 
     -- the program that was read
     pub given : Holds (Within F count) s
-    given = holds-read (Within F count) F s (told .0) bytes (told .1) (λ k. record { kept = k; count = told .2 })
+    given = holds-read (Within F count) F none s (told .0) bytes (told .1) (λ k. record { kept = k; count = told .2 })
 
     -- what is delivered of it is the outcome
     pub given-met : {r : Written} {d : List ℕ} → Meets (outcomeOf (given .program) out) r d → Meets (exported F s out) r d
@@ -124,4 +124,4 @@ meets-same F G s out {r} {e} same m = subst (λ (H : Limits). Meets (exported H 
 pub exportable-plain : Exportable plain
 unfolding plain
 exportable-plain =
-    record { strict = refl; placeable = plain-placeable; short = omega arith; heads = omega arith; bodies = omega arith; atoms = omega arith; literals = omega arith }
+    record { strict = refl; unsheeted = refl; placeable = plain-placeable; short = omega arith; heads = omega arith; bodies = omega arith; atoms = omega arith; literals = omega arith }

@@ -63,6 +63,8 @@ refused-marked t d e r x q = subst (Marked t d e) (sym q) tt
 -- where the record is told before its literals, nothing was marked
 pub told-marked : (t d : List ℕ) (a : Result Entry) (r : Step) → StepTold a r → Marked t d d r
 told-marked t d a (Step.Rule size) w = absurd (w .unruled size refl)
+told-marked t d a (Step.Override size) w = refl
+told-marked t d a (Step.Opposition size) w = refl
 told-marked t d a Step.End w = refl
 told-marked t d a (Step.Refused x) w = tt
 

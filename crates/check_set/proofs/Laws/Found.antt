@@ -1,5 +1,5 @@
 -- What the check finds, from what reading the program and the set gives and the room that there is; and what meets it.
--- In order: the chain of tests; each way out of it; the answers that meet a refusal, and a finding. Assumes nothing.
+-- In order: 9, and the finding; a refusal, and both as read; the answers that meet a refusal, and a finding. Assumes nothing.
 use Prim.Native.Nat.{ℕ, _≤_, _<_}
 use mathlib.Core.Path.{_≡_, sym, _∙_, ap}
 use mathlib.Core.List.{List}
@@ -13,55 +13,52 @@ use Rattle.semantics.specs.Rule.{Program}
 use Rattle.semantics.specs.Verdict.{Finding, finding}
 use Rattle.record.specs.declared.Reason.the-variants.{OutputShort}
 use Rattle.record.specs.declared.Refusal.{Refusal}
-use Rattle.record.specs.declared.Reading.{Reading}
 use Rattle.record.specs.Refusal.{refusal}
-use Rattle.record.specs.Result.{Result, accepted, refused, refuseIf}
+use Rattle.record.specs.Result.{Result, accepted, refused}
 use Rattle.record.specs.Reading.{parsed}
 use Rattle.record.proofs.Laws.Result.{refuse-if-true, refuse-if-false}
 use Rattle.set.specs.Reading.{parsedSet}
-use Rattle.inputs.specs.Code.{inputsReading}
+use Rattle.inputs.specs.declared.Both.{Both}
+use Rattle.inputs.specs.Code.{bothRead}
 use Rattle.inputs.proofs.Laws.Inputs.{inputs-refused, inputs-given}
 use Rattle.check_set.specs.declared.Verdict.{Verdict}
 use Rattle.check_set.specs.declared.Check.{Check}
 use Rattle.check_set.specs.Verdict.{verdictOf, witness}
-use Rattle.check_set.specs.Check.{found, Checked, checkedOf, checked}
+use Rattle.check_set.specs.Check.{foundOf, found, Checked, checkedOf}
 use Rattle.check_set.specs.Meets.{MeetsCheck}
 
+module _ (p : Program) (ls : List Literal) (k out : List ℕ) where
+  -- 9
+  pub found-short : length out < length k → foundOf p ls k out ≡ refused (refusal OutputShort 0)
+  found-short h = refuse-if-true (ltb (length out) (length k)) (refusal OutputShort 0) _ (lt-ltb (length out) (length k) h)
+
+  pub found-finding : length k ≤ length out → foundOf p ls k out ≡ accepted (finding p ls)
+  found-finding h = refuse-if-false (ltb (length out) (length k)) (refusal OutputShort 0) _ (le-ltb (length out) (length k) h)
+
 module _ (F : Limits) (s k out : List ℕ) where
-  -- what is found of a program and a set that are read
-  ofInputs : Program → List Literal → Result Finding
-  ofInputs p ls = refuseIf (ltb (length out) (length k)) (refusal OutputShort 0) (accepted (finding p ls))
-
   -- a refusal of the program or the set
-  pub found-refused : (x : Refusal) → inputsReading F (F .checked) s k ≡ Reading.Refused x → found F s k out ≡ refused x
-  unfolding found ofInputs
-  found-refused x e = inputs-refused F (F .checked) s k ofInputs x e
+  pub found-refused : (x : Refusal) → bothRead F (F .checked) s k ≡ Both.Refused x → found F s k out ≡ refused x
+  unfolding found
+  found-refused x e = inputs-refused F (F .checked) s k (λ p ls. foundOf p ls k out) x e
 
-  module _ (p : Program) (read : parsed F s ≡ accepted p) (ls : List Literal) (held : parsedSet F (F .checked) k ≡ accepted ls) where
-    both-read : found F s k out ≡ ofInputs p ls
-    unfolding found ofInputs
-    both-read = inputs-given F (F .checked) s k ofInputs p read ls held
+  -- both are read
+  pub found-read : (p : Program) → parsed F s ≡ accepted p → (ls : List Literal) → parsedSet F (F .checked) k ≡ accepted ls
+      → found F s k out ≡ foundOf p ls k out
+  unfolding found
+  found-read p read ls held = inputs-given F (F .checked) s k (λ p ls. foundOf p ls k out) p read ls held
 
-    -- 9
-    pub found-short : length out < length k → found F s k out ≡ refused (refusal OutputShort 0)
-    unfolding ofInputs
-    found-short h = both-read ∙ refuse-if-true (ltb (length out) (length k)) (refusal OutputShort 0) _ (lt-ltb (length out) (length k) h)
-
-    pub found-finding : length k ≤ length out → found F s k out ≡ accepted (finding p ls)
-    unfolding ofInputs
-    found-finding h = both-read ∙ refuse-if-false (ltb (length out) (length k)) (refusal OutputShort 0) _ (le-ltb (length out) (length k) h)
-
+module _ (q : Result Finding) (out : List ℕ) where
   -- a refusal is answered, and the output stays
-  pub meets-refusal : (x : Refusal) → found F s k out ≡ refused x → MeetsCheck (checked F s k out) (Check.Refused x) out
-  unfolding checked checkedOf
+  pub meets-refusal : (x : Refusal) → q ≡ refused x → MeetsCheck (checkedOf q out) (Check.Refused x) out
+  unfolding checkedOf
   meets-refusal x e =
-      let same = ap (λ (q : Result Finding). checkedOf q out) (sym e) in
+      let same = ap (λ (f : Result Finding). checkedOf f out) (sym e) in
       record { answer = ap (λ (w : Checked). w .answer) same; buffer = ap (λ (w : Checked). w .buffer) same }
 
   -- a finding's verdict is answered, and its witness written
-  pub meets-finding : (f : Finding) → found F s k out ≡ accepted f → {r : Verdict} {end : List ℕ} → r ≡ verdictOf f → end ≡ write out 0 (witness f)
-      → MeetsCheck (checked F s k out) (Check.Found r) end
-  unfolding checked checkedOf
+  pub meets-finding : (f : Finding) → q ≡ accepted f → {r : Verdict} {end : List ℕ} → r ≡ verdictOf f → end ≡ write out 0 (witness f)
+      → MeetsCheck (checkedOf q out) (Check.Found r) end
+  unfolding checkedOf
   meets-finding f e told done =
-      let same = ap (λ (q : Result Finding). checkedOf q out) (sym e) in
+      let same = ap (λ (g : Result Finding). checkedOf g out) (sym e) in
       record { answer = ap Check.Found told ∙ ap (λ (w : Checked). w .answer) same; buffer = done ∙ ap (λ (w : Checked). w .buffer) same }

@@ -1,13 +1,11 @@
 -- Laws of what is gathered for an extension, from what reading gives: the marks, and the record that they make with the set.
--- In order: keys that were collected, sorted; a program whose marks can be collected; its marks by the set's keys; their fields; the keys that are sorted; the
--- record.
+-- In order: keys that were collected, sorted; a program whose marks can be collected; their fields; its marks by the set's keys; the keys
+-- that are sorted; the record.
 -- Assumes nothing.
 use Prim.Native.Nat.{ℕ, _+_, _*_, _<_}
 use native.Mathlib.Omega.{arith}
-use native.Mathlib.Nat.{mul-le-mul-right}
 use mathlib.Core.Path.{_≡_, refl, sym, _∙_, ap, ap₂}
 use mathlib.Core.List.{List, _++_, map, append-assoc}
-use lib.Dec.{T, leb, le→leb}
 use lib.ListN.{length, take, drop, length-append, length-map, length-take}
 use lib.Seq.{take-all, take-append-le, length-front}
 use Rattle.buffer.specs.Bytes.{Bytes}
@@ -15,24 +13,19 @@ use Rattle.literal.specs.declared.Limits.{Limits}
 use Rattle.literal.specs.declared.Literal.{Literal}
 use Rattle.literal.specs.Order.{key, sorted}
 use Rattle.literal.proofs.Laws.Literal.{Fits}
-use Rattle.semantics.specs.Set.{LiteralSet, eachOf, setOf}
-use Rattle.semantics.specs.Rule.{Rule, head, Program}
-use Rattle.semantics.specs.Form.{keepsRule, keepsRules}
-use Rattle.semantics.proofs.Laws.Tests.{Each, all-intro, all-mem}
+use Rattle.semantics.specs.Set.{LiteralSet, setOf}
+use Rattle.semantics.specs.Rule.{Program}
+use Rattle.semantics.proofs.Laws.Tests.{Each}
 use Rattle.semantics.proofs.Laws.Agree.{Speaks}
-use Rattle.semantics.proofs.Laws.Form.{keeps-count, keeps-each, kept}
+use Rattle.semantics.proofs.Laws.Expanded.{Expanded, expanded-few}
 use Rattle.record.specs.Result.{accepted}
-use Rattle.record.specs.Layout.{encodedLiterals}
-use Rattle.record.specs.Reading.{parsed}
+use Rattle.record.specs.Layout.{encodedLiterals, encodedProgram}
 use Rattle.record.proofs.Laws.Layout.{encoded-literals-append, length-encoded-literals}
-use Rattle.record.proofs.Laws.Reading.{parsed-sound}
 use Rattle.record.proofs.Laws.Fit.{program-fits}
-use Rattle.record.proofs.Laws.Keeps.{kept-program}
-use Rattle.record_walk.specs.Code.{Holds}
 use Rattle.set.specs.Layout.{encodedSet}
 use Rattle.set.specs.Reading.{parsedSet}
 use Rattle.set.specs.Code.{keySet, setHeader}
-use Rattle.set.proofs.Laws.Reading.{parsed-set-sound, length-encoded-set, keeps-set-most}
+use Rattle.set.proofs.Laws.Reading.{parsed-set-sound, length-encoded-set}
 use Rattle.set.proofs.Laws.Keys.{read-agree}
 use Rattle.keys.specs.Keys.{sortedKeys}
 use Rattle.keys.specs.Code.{keyBytes, Fitting}
@@ -43,6 +36,7 @@ use Rattle.extend_marks.specs.Marks.{marksFrom}
 use Rattle.extend_marks.specs.Code.{Gained, Markable}
 use Rattle.extend_marks.proofs.Laws.Gained.{gained-front}
 use Rattle.extend_marks.proofs.Laws.Agree.{marks-same}
+use Rattle.extend_marks.proofs.Laws.Expanded.{expanded-room}
 use Rattle.extend.specs.Extend.{extensionList}
 use Rattle.extend.specs.Code.{most, Extendable, joined}
 use Rattle.extend.proofs.Laws.Sorted.{keyBytes-sorted, fitting-keys}
@@ -58,55 +52,33 @@ gained-sorted {d} {e} {f} {n} {r} g s =
       same = length-front e f n (s .same) ∙ g .same;
     }
 
--- a rule within the limits has no more head literals than they allow
-pub few-heads : (F : Limits) (r : Rule) → T (keepsRule F r) → T (leb (length (head r)) (F .heads))
-few-heads F r k = le→leb (length (head r)) (F .heads) (kept F r k .heads)
+-- a program within the limits, with the rules that sheets append to it: its marks can be collected
+pub markable : (F : Limits) → Extendable F → (p : Program) → Expanded F p → Markable most p
+markable F ok p e =
+    record {
+      short = omega (arith, expanded-few F p e, ok .rules);
+      fits = omega (arith, expanded-room F p e (ok .appended .heads), ok .marks);
+    }
 
-module _ (F : Limits) (ok : Extendable F) (s : List ℕ) (p : Program) (e : parsed F s ≡ accepted p) (bytes : Bytes s) where
-  -- the program keeps the limits
-  within : T (keepsRules F p)
-  within = kept-program F p (parsed-sound F s p bytes e .1) .rules
-
-  each : T (eachOf (keepsRule F) p)
-  each = keeps-each F p within
-
-  -- its marks can be collected
-  pub marking : Holds (Markable most) s
-  marking =
-      record {
-        program = p;
-        bytes = parsed-sound F s p bytes e .0;
-        asked =
-            record {
-              heads = F .heads;
-              some = ok .some;
-              few = all-intro (λ r. leb (length (head r)) (F .heads)) p (λ r m. few-heads F r (all-mem (keepsRule F) each m));
-              short = omega (arith, keeps-count F p within, ok .rules);
-              fits = omega (arith, mul-le-mul-right (F .heads) (keeps-count F p within), ok .marks);
-            };
-      }
-
-  pub marking-program : marking .program ≡ p
-  unfolding marking
-  marking-program = refl
-
-  -- their fields fit two bytes
+-- a program by its bytes
+module _ (s : List ℕ) (bytes : Bytes s) (p : Program) (e : s ≡ encodedProgram p) (short : length p < 65535) where
+  -- the fields of the marks fit two bytes
   spoken : Each (Speaks Fits) p
-  spoken = program-fits s p bytes (parsed-sound F s p bytes e .0)
+  spoken = program-fits s p bytes e
 
   narrow-marks : (u : LiteralSet) → Each Fits (marksFrom 1 p u)
-  narrow-marks u = marks-fit u 1 p (omega (arith, keeps-count F p within, ok .rules)) spoken
+  narrow-marks u = marks-fit u 1 p (omega arith) spoken
 
-  module _ (k : List ℕ) (ls : List Literal) (m : parsedSet F (F .literals) k ≡ accepted ls) (places : Bytes k) where
+  module _ (F : Limits) (upto : ℕ) (k : List ℕ) (ls : List Literal) (m : parsedSet F upto k ≡ accepted ls) (places : Bytes k) where
     -- the marks in the set that is searched are those in the set
     same-marks : marksFrom 1 p (keySet k (length ls)) ≡ marksFrom 1 p (setOf ls)
-    same-marks = marks-same Fits (keySet k (length ls)) (setOf ls) (read-agree F (F .literals) k ls places m) 1 p spoken
+    same-marks = marks-same Fits (keySet k (length ls)) (setOf ls) (read-agree F upto k ls places m) 1 p spoken
 
     -- the set's literals, as they lie behind its count
     literals-lie : take (5 * length ls) (drop 4 k) ≡ encodedLiterals ls
     unfolding encodedSet
     literals-lie =
-        ap (λ (x : List ℕ). take (5 * length ls) (drop 4 x)) (parsed-set-sound F (F .literals) k ls places m .0)
+        ap (λ (x : List ℕ). take (5 * length ls) (drop 4 x)) (parsed-set-sound F upto k ls places m .0)
         ∙ take-all (5 * length ls) (encodedLiterals ls) (omega (arith, length-encoded-literals ls))
 
     module _ (d x : List ℕ) (n : ℕ) (room : length d ≡ most) (g : Sorted d x n (sortedKeys (map key (marksFrom 1 p (keySet k (length ls)))))) where
@@ -127,8 +99,8 @@ module _ (F : Limits) (ok : Extendable F) (s : List ℕ) (p : Program) (e : pars
           )
 
       -- two bytes count them with the set's literals
-      pub gathered-few : length ls + n < 65536
-      gathered-few = omega (arith, g .count, keeps-set-most F (F .literals) ls (parsed-set-sound F (F .literals) k ls places m .1), ok .total)
+      pub gathered-few : length ls + most < 65536 → length ls + n < 65536
+      gathered-few total = omega (arith, g .count)
 
       -- each fits five bytes
       pub gathered-fitting : Fitting (take n x)

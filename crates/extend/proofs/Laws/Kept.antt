@@ -1,12 +1,12 @@
--- The extension of a set of one form is a set of another that covers it: what is written can be read there.
+-- The extension of a set of one form is a set of another that covers it: what is written can be read there. The program is one within the
+-- form's limits, with the rules that sheets append to it.
 -- In order: the number of literals; the law for two forms.
 -- Assumes nothing.
 use Prim.Native.Nat.{_+_, _≤_}
 use native.Mathlib.Omega.{arith}
-use native.Mathlib.Nat.{mul-le-mul-right}
 use mathlib.Core.Path.{ap}
 use mathlib.Core.List.{List}
-use lib.Dec.{T, leb}
+use lib.Dec.{T}
 use lib.ListN.{length, length-append}
 use Rattle.literal.specs.declared.Limits.{Limits}
 use Rattle.literal.specs.declared.Literal.{Literal}
@@ -14,12 +14,13 @@ use Rattle.literal.specs.Literal.{mostKind, takes}
 use Rattle.literal.specs.Order.{sorted}
 use Rattle.literal.proofs.Laws.Literal.{Fits}
 use Rattle.semantics.specs.Set.{LiteralSet, setOf}
-use Rattle.semantics.specs.Rule.{head, Program}
-use Rattle.semantics.specs.Form.{SetOf, keepsRule, keepsRules}
+use Rattle.semantics.specs.Rule.{Program}
+use Rattle.semantics.specs.Form.{SetOf}
 use Rattle.semantics.proofs.Laws.Tests.{Each, all-intro, all-mem, along}
 use Rattle.semantics.proofs.Laws.Agree.{Speaks}
 use Rattle.semantics.proofs.Laws.Set.{set-of-mem, mem-set-of}
-use Rattle.semantics.proofs.Laws.Form.{keeps-count, keeps-each, takes-source, Covers, extension-within}
+use Rattle.semantics.proofs.Laws.Form.{takes-source, Covers, extension-within}
+use Rattle.semantics.proofs.Laws.Expanded.{Expanded, expanded-each, expanded-numbered}
 use Rattle.set.specs.Layout.{keepsSet}
 use Rattle.set.proofs.Laws.Reading.{keeps-set, keeps-set-ascending, keeps-set-taken, keeps-set-most}
 use Rattle.keys.proofs.Laws.Literals.{length-sorted}
@@ -27,24 +28,16 @@ use Rattle.extend_marks.specs.Marks.{marksFrom}
 use Rattle.extend_marks.proofs.Laws.Count.{length-program}
 use Rattle.extend.specs.Extend.{extensionList}
 use Rattle.extend.specs.Code.{most, Extendable}
-use Rattle.extend.proofs.Laws.Gathered.{few-heads}
+use Rattle.extend.proofs.Laws.Gathered.{markable}
 use Rattle.extend.proofs.Laws.Extend.{extension-list, extension-ascending-form}
 
-module _ (F : Limits) (ok : Extendable F) (p : Program) (k : T (keepsRules F p)) where
+module _ (F : Limits) (ok : Extendable F) (p : Program) (e : Expanded F p) where
   -- the marks are no more than the limits leave room for
   pub length-extension : (ls : List Literal) → length (extensionList p ls) ≤ length ls + most
   unfolding extensionList
   length-extension ls =
       let ms = marksFrom 1 p (setOf ls) in
-      let few = all-intro (λ r. leb (length (head r)) (F .heads)) p (λ r m. few-heads F r (all-mem (keepsRule F) (keeps-each F p k) m)) in
-      omega (
-        arith,
-        length-append ls (sorted ms),
-        length-sorted ms,
-        length-program (setOf ls) (F .heads) (ok .some) 1 p few,
-        mul-le-mul-right (F .heads) (keeps-count F p k),
-        ok .marks,
-      )
+      omega (arith, length-append ls (sorted ms), length-sorted ms, length-program (setOf ls) 1 p, markable F ok p e .fits)
 
   -- the list is a set within the limits of a form that covers F
   pub extension-keeps : Each (Speaks Fits) p → (G : Limits) → Covers F G → mostKind (F .kinds) ≤ 3 → F .literals + most ≤ G .literals → (ls : List Literal)
@@ -52,10 +45,11 @@ module _ (F : Limits) (ok : Extendable F) (p : Program) (k : T (keepsRules F p))
   extension-keeps fit G covers kinds room ls h =
       let taken = keeps-set-taken F (F .literals) ls h in
       let inside : SetOf F (setOf ls) = λ l y. all-mem (takes F) taken (mem-set-of l ls y) in
-      let within = extension-within F G covers p k (setOf ls) (λ l y. takes-source F kinds l (inside l y)) inside in
+      let within = extension-within F G covers p (expanded-each F p e (ok .appended)) (expanded-numbered F p e) (setOf ls)
+      (λ l y. takes-source F kinds l (inside l y)) inside in
       let size = length-extension ls in
       let count = keeps-set-most F (F .literals) ls h in
-      let same = extension-list p (omega (arith, keeps-count F p k, ok .rules)) fit ls in
+      let same = extension-list p (omega (arith, markable F ok p e .short)) fit ls in
       keeps-set G (G .literals) (extensionList p ls) (extension-ascending-form F ok kinds p ls taken (keeps-set-ascending F (F .literals) ls h))
       (all-intro (takes G) (extensionList p ls) (λ l m. within l (along (ap (λ (u : LiteralSet). u l) same) (set-of-mem m))))
       (omega (arith, size, count)) (omega (arith, size, count, ok .total))

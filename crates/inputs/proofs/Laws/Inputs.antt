@@ -1,36 +1,34 @@
--- Laws of a program and a set in one call: the refusal that comes first, and what is made of both where both are read.
--- In order: each by what was parsed; what reading both answers; taken back from its answer. Assumes nothing.
+-- Laws of a file and a set in one call: the refusal that comes first, and what is made of both where both are read.
+-- In order: each by what was read; what reading both answers; taken back from its answer. Assumes nothing.
 use Prim.Native.Nat.{ℕ}
+use native.Mathlib.Omega.{arith}
 use mathlib.Core.Path.{_≡_, refl, sym, _∙_, ap}
 use mathlib.Core.List.{List}
 use lib.ListN.{length}
 use Rattle.literal.specs.declared.Limits.{Limits}
 use Rattle.literal.specs.declared.Literal.{Literal}
 use Rattle.semantics.specs.Rule.{Program}
+use Rattle.semantics.specs.Item.{Item, expanded}
+use Rattle.record.specs.declared.Held.{Held}
+use Rattle.record.specs.declared.Holding.{Holding}
 use Rattle.record.specs.declared.Refusal.{Refusal}
 use Rattle.record.specs.declared.Reading.{Reading}
 use Rattle.record.specs.Result.{Result, accepted, refused, andThen}
-use Rattle.record.specs.Reading.{parsed, readingOf, reading}
-use Rattle.record.proofs.Laws.Reading.{read-count, read-refused}
-use Rattle.record.proofs.Laws.Result.{accepted-eq, refused-accepted}
+use Rattle.record.specs.Reading.{items, parsed, heldOf, holdingOf, readingOf}
+use Rattle.record.proofs.Laws.Reading.{read-count, read-refused, held-items, held-refused, items-parsed}
 use Rattle.set.specs.Reading.{parsedSet}
 use Rattle.set.specs.Code.{setReading}
+use Rattle.inputs.specs.declared.Both.{Both}
 use Rattle.inputs.specs.Inputs.{withInputs}
-use Rattle.inputs.specs.Code.{inputsReading, Inputs}
-
--- a refusal is the same whatever was refused
-same : {A B : Type 0} {y x : Refusal} → _≡_ {A = Result A} (refused y) (refused x) → _≡_ {A = Result B} (refused y) (refused x)
-same {y = y} {x = x} q = ap refused one
-  where
-    one : y ≡ x
-    one = cc
+use Rattle.inputs.specs.Code.{bothOf, bothAnswer, bothRead, Inputs}
 
 module _ (F : Limits) (most : ℕ) (s k : List ℕ) where
   module _ {A : Type 0} (f : Program → List Literal → Result A) where
-    -- the program is refused
-    inputs-program : (x : Refusal) → parsed F s ≡ refused x → withInputs F most s k f ≡ refused x
-    unfolding withInputs andThen
-    inputs-program x e = ap (λ (q : Result Program). andThen q (λ p. andThen (parsedSet F most k) (f p))) e
+    -- the file is refused
+    inputs-program : (x : Refusal) → items F s ≡ refused x → withInputs F most s k f ≡ refused x
+    unfolding withInputs parsed andThen
+    inputs-program x e =
+        ap (λ (q : Result (List Item)). andThen (andThen q (λ is. accepted (expanded is))) (λ p. andThen (parsedSet F most k) (f p))) e
 
     module _ (p : Program) (read : parsed F s ≡ accepted p) where
       -- it is read, and the set decides
@@ -47,57 +45,56 @@ module _ (F : Limits) (most : ℕ) (s k : List ℕ) where
       unfolding andThen
       inputs-given ls e = inputs-set ∙ ap (λ (q : Result (List Literal)). andThen q (f p)) e
 
-  -- what reading both answers
-  pub reading-program : (x : Refusal) → reading F s ≡ Reading.Refused x → inputsReading F most s k ≡ Reading.Refused x
-  unfolding reading inputsReading readingOf
-  reading-program x e = ap readingOf (inputs-program (λ p ls. accepted ls) x (read-refused (parsed F s) x e))
+  -- what reading both answers, from what reading each answered
+  pub both-file : (x : Refusal) → holdingOf (items F s) ≡ Holding.Refused x → bothRead F most s k ≡ bothOf (Holding.Refused x) 0
+  unfolding bothRead bothAnswer bothOf
+  both-file x e = ap (λ (q : Result (List Item)). bothAnswer q (parsedSet F most k)) (held-refused (items F s) x e)
 
-  pub reading-set : (n : ℕ) → reading F s ≡ Reading.Count n → inputsReading F most s k ≡ setReading F most k
-  unfolding reading inputsReading setReading andThen
-  reading-set n e =
-      let w = read-count (parsed F s) n e in
-      ap readingOf (inputs-set (λ p ls. accepted ls) (w .0) (w .1) ∙ same (parsedSet F most k))
-    where
-      same : (q : Result (List Literal)) → andThen q (λ ls. accepted ls) ≡ q
-      same (accepted ls) = refl
-      same (refused x) = refl
+  pub both-set : (h : Held) → holdingOf (items F s) ≡ Holding.All h → (x : Refusal) → setReading F most k ≡ Reading.Refused x
+      → bothRead F most s k ≡ Both.Refused x
+  unfolding bothRead bothAnswer setReading
+  both-set h e x r =
+      let w = held-items (items F s) h e in
+      ap (λ (q : Result (List Item)). bothAnswer q (parsedSet F most k)) (w .1)
+      ∙ ap (bothAnswer (accepted (w .0))) (read-refused (parsedSet F most k) x r)
+
+  pub both-read : (h : Held) → holdingOf (items F s) ≡ Holding.All h → (n : ℕ) → setReading F most k ≡ Reading.Count n
+      → bothRead F most s k ≡ bothOf (Holding.All h) n
+  unfolding bothRead bothAnswer bothOf setReading
+  both-read h e n r =
+      let w = held-items (items F s) h e in
+      let v = read-count (parsedSet F most k) n r in
+      ap (λ (q : Result (List Item)). bothAnswer q (parsedSet F most k)) (w .1) ∙ ap (bothAnswer (accepted (w .0))) (v .1)
+      ∙ ap (λ (g : Held). Both.Read g (length (v .0))) (w .2) ∙ ap (Both.Read h) (v .2)
 
   -- from a number: both were read, and the set has so many literals
-  pub inputs-read : (n : ℕ) → inputsReading F most s k ≡ Reading.Count n → Inputs F most s k n
-  unfolding inputsReading
-  inputs-read n e = program (parsed F s) refl
+  pub inputs-read : (h : Held) (n : ℕ) → bothRead F most s k ≡ Both.Read h n → Inputs F most s k h n
+  unfolding bothRead bothAnswer
+  inputs-read h n e = go (items F s) refl (parsedSet F most k) refl e
     where
-      told : (ls : List Literal) × (withInputs F most s k (λ p ls. accepted ls) ≡ accepted ls) × (length ls ≡ n)
-      told = read-count (withInputs F most s k (λ p ls. accepted ls)) n e
-
-      set : (p : Program) → parsed F s ≡ accepted p → (q : Result (List Literal)) → parsedSet F most k ≡ q → Inputs F most s k n
-      set p read (accepted ls) h =
-          record {
-            program = p;
-            holds = read;
-            literals = ls;
-            members = h;
-            counted = sym (ap length (accepted-eq (sym (inputs-given (λ p ls. accepted ls) p read ls h) ∙ told .1)) ∙ told .2);
-          }
-      set p read (refused x) h = absurd (refused-accepted (sym (set-stops (λ p ls. accepted ls) p read x h) ∙ told .1))
-
-      program : (q : Result Program) → parsed F s ≡ q → Inputs F most s k n
-      program (accepted p) h = set p h (parsedSet F most k) refl
-      program (refused x) h = absurd (refused-accepted (sym (inputs-program (λ p ls. accepted ls) x h) ∙ told .1))
+      go : (q : Result (List Item)) → items F s ≡ q → (r : Result (List Literal)) → parsedSet F most k ≡ r → bothAnswer q r ≡ Both.Read h n
+          → Inputs F most s k h n
+      go (refused x) a r b w = let z : _≡_ {A = ℕ} 0 1 = cc in absurd (omega arith)
+      go (accepted is) a (refused x) b w = let z : _≡_ {A = ℕ} 0 1 = cc in absurd (omega arith)
+      go (accepted is) a (accepted ls) b w =
+          let same : heldOf is ≡ h = cc in
+          let number : length ls ≡ n = cc in
+          record { file = is; holds = a; held = same; literals = ls; members = b; counted = sym number }
 
   -- from a refusal: whatever is to be made of the two is refused with it
   pub inputs-refused : {A : Type 0} (f : Program → List Literal → Result A) (x : Refusal)
-      → inputsReading F most s k ≡ Reading.Refused x → withInputs F most s k f ≡ refused x
-  unfolding inputsReading
-  inputs-refused f x e = program (parsed F s) refl
+      → bothRead F most s k ≡ Both.Refused x → withInputs F most s k f ≡ refused x
+  unfolding bothRead bothAnswer
+  inputs-refused f x e = go (items F s) refl (parsedSet F most k) refl e
     where
-      told : withInputs F most s k (λ p ls. accepted ls) ≡ refused x
-      told = read-refused (withInputs F most s k (λ p ls. accepted ls)) x e
+      go : (q : Result (List Item)) → items F s ≡ q → (r : Result (List Literal)) → parsedSet F most k ≡ r → bothAnswer q r ≡ Both.Refused x
+          → withInputs F most s k f ≡ refused x
+      go (refused y) a r b w = let same : y ≡ x = cc in inputs-program f y a ∙ ap refused same
+      go (accepted is) a (refused y) b w =
+          let same : y ≡ x = cc in set-stops f (expanded is) (items-parsed F s is a) y b ∙ ap refused same
+      go (accepted is) a (accepted ls) b w = let z : _≡_ {A = ℕ} 0 1 = cc in absurd (omega arith)
 
-      set : (p : Program) → parsed F s ≡ accepted p → (q : Result (List Literal)) → parsedSet F most k ≡ q → withInputs F most s k f ≡ refused x
-      set p read (accepted ls) h = absurd (refused-accepted (sym told ∙ inputs-given (λ p ls. accepted ls) p read ls h))
-      set p read (refused y) h = set-stops f p read y h ∙ same (sym (set-stops (λ p ls. accepted ls) p read y h) ∙ told)
-
-      program : (q : Result Program) → parsed F s ≡ q → withInputs F most s k f ≡ refused x
-      program (accepted p) h = set p h (parsedSet F most k) refl
-      program (refused y) h = inputs-program f y h ∙ same (sym (inputs-program (λ p ls. accepted ls) y h) ∙ told)
+  -- what is made of both, where both were read
+  pub inputs-made : {A : Type 0} (f : Program → List Literal → Result A) {h : Held} {n : ℕ} (w : Inputs F most s k h n)
+      → withInputs F most s k f ≡ f (expanded (w .file)) (w .literals)
+  inputs-made f w = inputs-given f (expanded (w .file)) (items-parsed F s (w .file) (w .holds)) (w .literals) (w .members)

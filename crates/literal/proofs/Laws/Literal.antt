@@ -188,12 +188,16 @@ module _ (F : Limits) where
       go false q e = absurd (never-valid e)
   valid-within Wrong l e = absurd (never-valid e)
 
+  -- what is decoded to a literal has its fields
+  pub decoded-fields : (bs : List ℕ) (l : Literal) → decoded F bs ≡ Valid l → Fields (getD bs 0 0) (numberAt bs 1) (numberAt bs 3) l
+  unfolding decoded
+  decoded-fields bs l e =
+      let v = valid-within (spelled (getD bs 0 0) (numberAt bs 1) (numberAt bs 3)) l e in
+      fields-spelled (getD bs 0 0) (numberAt bs 1) (numberAt bs 3) l (v .0)
+
   -- the first byte of what is decoded to a literal is its kind
   pub decoded-kind : (bs : List ℕ) (l : Literal) → decoded F bs ≡ Valid l → getD bs 0 0 ≡ kind l
-  unfolding decoded
-  decoded-kind bs l e =
-      let v = valid-within (spelled (getD bs 0 0) (numberAt bs 1) (numberAt bs 3)) l e in
-      fields-spelled (getD bs 0 0) (numberAt bs 1) (numberAt bs 3) l (v .0) .of-kind
+  decoded-kind bs l e = decoded-fields bs l e .of-kind
 
   -- bytes that are decoded to a literal are its bytes, and the form takes it
   pub encoded-decoded :

@@ -18,27 +18,29 @@ use Rattle.literal.specs.Limits.{source, plain}
 use Rattle.semantics.specs.Set.{LiteralSet, someOf, eachOf, setOf}
 use Rattle.semantics.specs.Rule.{Rule, strict, defeasible, Program, Remainder, head, positive}
 use Rattle.semantics.specs.Meaning.{undefeated, unlessEmpty, remainder, withRemainder, quotient}
-use Rattle.semantics.specs.Form.{keepsRule}
+use Rattle.semantics.specs.Form.{keepsRule, TakesDefeats, wide}
 use Rattle.semantics.proofs.Laws.Tests.{both, first, second, each-intro, each-all, all-mem}
 use Rattle.semantics.proofs.Laws.Wider.{Wider, all-wider, wider-same, source-wider}
 use Rattle.semantics.proofs.Laws.Form.{Kept, kept, strict-keeps}
+use Rattle.semantics.proofs.Laws.Expanded.{Expanded, expanded-few, expanded-each}
 use Rattle.semantics.proofs.Laws.Agree.{each-undefeated}
 use Rattle.semantics.proofs.Laws.Meaning.{undefeated-few}
 use Rattle.record.specs.Result.{accepted}
 use Rattle.record.specs.Reading.{parsed}
-use Rattle.record.specs.Layout.{encodedProgram, keeps}
-use Rattle.record.proofs.Laws.Keeps.{kept-program, keeps-program}
+use Rattle.record.specs.Layout.{encodedProgram}
+use Rattle.record.proofs.Laws.Keeps.{keeps-program}
 use Rattle.record.proofs.Laws.Reading.{parsed-complete}
 use Rattle.quotient.specs.Quotient.{remainderRule, quotientProgram}
 use Rattle.quotient.proofs.Laws.Program.{rules-left, quotient-short}
 
--- F's figures are within G's
+-- F's figures, with what sheets append, are within G's
 pub record Within (F G : Limits) : Type 0 where
   pub wider : Wider F G
-  pub bytes : F .length ≤ G .length
-  pub rules : F .rules ≤ G .rules
+  pub bytes : wide F .length ≤ G .length
+  pub rules : wide F .rules ≤ G .rules
   pub heads : F .heads ≤ G .heads
   pub positives : F .positives ≤ G .positives
+  pub appended : TakesDefeats F
 
 module _ (F G : Limits) (w : Within F G) where
   -- what is left of options that F takes
@@ -88,20 +90,36 @@ module _ (F G : Limits) (w : Within F G) where
       go (some q) v y = both (keepsRule G (remainderRule q)) (eachOf (keepsRule G) (map remainderRule (quotient p s))) v y
 
 -- a quotient is read, in a form whose figures are as large, as the program that it is
-pub quotient-read : (F G : Limits) → Within F G → (p : Program) (ls : List Literal) → T (keeps F p)
+pub quotient-read : (F G : Limits) → Within F G → (p : Program) (ls : List Literal) → Expanded F p → length (encodedProgram p) ≤ wide F .length
     → parsed G (encodedProgram (quotientProgram p ls)) ≡ accepted (quotientProgram p ls)
-unfolding quotientProgram
-quotient-read F G w p ls k =
+unfolding quotientProgram wide
+quotient-read F G w p ls e short =
     let q = quotient p (setOf ls) in
-    let n = kept-program F p k in
     parsed-complete G (map remainderRule q)
-    (keeps-program G (map remainderRule q) (omega (arith, length-map q remainderRule, rules-left (setOf ls) p, n .count, w .rules))
-    (rules-kept F G w p (setOf ls) (n .each)) (omega (arith, quotient-short p (setOf ls), n .short, w .bytes)))
+    (keeps-program G (map remainderRule q) (omega (arith, length-map q remainderRule, rules-left (setOf ls) p, expanded-few F p e, w .rules))
+    (rules-kept F G w p (setOf ls) (expanded-each F p e (w .appended))) (omega (arith, quotient-short p (setOf ls), w .bytes)))
 
 -- both forms' figures are within the plain form's
 pub source-within : Within source plain
-unfolding source plain mostKind
-source-within = record { wider = source-wider; bytes = omega arith; rules = omega arith; heads = omega arith; positives = omega arith }
+unfolding source plain mostKind wide
+source-within =
+    record {
+      wider = source-wider;
+      bytes = omega arith;
+      rules = omega arith;
+      heads = omega arith;
+      positives = omega arith;
+      appended = record { heads = omega arith; positives = omega arith };
+    }
 
 pub plain-within : Within plain plain
-plain-within = record { wider = wider-same plain; bytes = omega arith; rules = omega arith; heads = omega arith; positives = omega arith }
+unfolding plain wide
+plain-within =
+    record {
+      wider = wider-same plain;
+      bytes = omega arith;
+      rules = omega arith;
+      heads = omega arith;
+      positives = omega arith;
+      appended = record { heads = omega arith; positives = omega arith };
+    }

@@ -21,6 +21,7 @@ use Rattle.literal.specs.Literal.{Valid, Wrong}
 use Rattle.literal.specs.Literal.{decoded, kind}
 use Rattle.literal.proofs.Laws.Literal.{decoded-kind}
 use Rattle.semantics.specs.Set.{eachOf}
+use Rattle.semantics.specs.Item.{rule}
 use Rattle.semantics.specs.Rule.{Rule, defeasible}
 use Rattle.record.specs.declared.Reason.the-variants.{LiteralsCut, HeadWrong, LiteralWrong}
 use Rattle.record.specs.declared.Refusal.{Refusal}
@@ -28,7 +29,7 @@ use Rattle.record.specs.declared.Run.{Run}
 use Rattle.record.specs.declared.Step.{Step}
 use Rattle.record.specs.Refusal.{refusal}
 use Rattle.record.specs.Result.{Result, accepted, refused, andThen}
-use Rattle.record.specs.Reading.{Entry, rule, literalsAt, optionsOf, defeasibleRule, ruleOf, bodyAt}
+use Rattle.record.specs.Reading.{Entry, item, literalsAt, optionsOf, defeasibleRule, ruleOf, bodyAt}
 use Rattle.record.specs.Code.{runOf, signedKinds, stepOf}
 use Rattle.record.proofs.Laws.Result.{refused-accepted, accepted-eq, and-then-accepted, refuse-if-false, refuse-if-true}
 
@@ -132,7 +133,7 @@ module _ (F : Limits) (d : Bool) (t : List ℕ) (h b c : ℕ) where
   size = 7 + 5 * (h + b + c)
 
   sized : Rule → Result Entry
-  sized r = accepted (rule r size)
+  sized r = accepted (item (rule r) size)
 
   finish : List Literal → Result Entry
   finish ls = andThen (ruleOf d (numberAt t 2) h b ls) sized

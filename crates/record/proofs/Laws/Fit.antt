@@ -27,7 +27,7 @@ literals-fit (l ∷ ls) bytes =
     (encoded-fits l (encodedLiterals ls) bytes, literals-fit ls (bytes-behind (encoded l) (encodedLiterals ls) bytes))
 
 -- the defeat marks of options
-marks-fit : (t : Tag) → t .0 < 65536 → (h : List SignedAtom) → Each Fits (map Signed h) → Each Fits (map (Defeated t) h)
+pub marks-fit : (t : Tag) → t .0 < 65536 → (h : List SignedAtom) → Each Fits (map Signed h) → Each Fits (map (Defeated t) h)
 unfolding tagField atomField
 marks-fit t tag [] e = tt
 marks-fit t tag (a ∷ h) e = ((tag, e .0 .1), marks-fit t tag h (e .1))

@@ -1,4 +1,4 @@
--- Laws of the layout: lengths, and the bytes of runs of literals. Assumes nothing.
+-- Laws of the layout: lengths, and the bytes of runs of literals, of programs and of files. Assumes nothing.
 use Prim.Native.Nat.{ℕ, _+_, _*_, _≤_}
 use native.Mathlib.Omega.{arith}
 use mathlib.Core.Path.{_≡_, refl, sym, _∙_, ap}
@@ -12,7 +12,9 @@ use Rattle.semantics.specs.Rule.{Rule, strict, defeasible, Program}
 use Rattle.semantics.specs.Translation.{recordLength}
 use Rattle.semantics.proofs.Laws.Length.{recordsLength, programLength}
 use Rattle.record.specs.Header.{strictLetter, defeasibleLetter}
-use Rattle.record.specs.Layout.{encodedLiterals, ruleRecord, encodedRule, encodedRules, encodedEnd, encodedProgram}
+use Rattle.semantics.specs.Expansion.{Override, Opposition}
+use Rattle.semantics.specs.Item.{Item, rule, override, opposition, rules}
+use Rattle.record.specs.Layout.{encodedLiterals, ruleRecord, encodedRule, encodedRules, encodedEnd, encodedProgram, encodedOverride, encodedOpposition, encodedItem, encodedItems, encodedFile}
 
 pub encoded-literals-append : (ls ms : List Literal) → encodedLiterals (ls ++ ms) ≡ encodedLiterals ls ++ encodedLiterals ms
 unfolding encodedLiterals
@@ -56,6 +58,10 @@ unfolding encodedProgram programLength encodedEnd
 length-encoded-program p = length-append (encodedRules p) (encodedEnd (length p)) ∙ omega (arith, length-encoded-rules p)
 
 -- an end record has four bytes
+pub length-end : (n : ℕ) → length (encodedEnd n) ≡ 4
+unfolding encodedEnd
+length-end n = refl
+
 pub length-program : (p : Program) → length (encodedProgram p) ≡ 4 + length (encodedRules p)
 unfolding encodedProgram encodedEnd
 length-program p = length-append (encodedRules p) (encodedEnd (length p)) ∙ omega arith
@@ -74,3 +80,57 @@ rules-below (r ∷ p) = omega (arith, record-large r, rules-below p)
 pub rules-below-length : (p : Program) → length p ≤ length (encodedProgram p)
 unfolding programLength
 rules-below-length p = omega (arith, length-encoded-program p, rules-below p)
+
+-- the bytes of an item's record
+unfoldable pub itemLength : Item → ℕ
+itemLength (rule r) = recordLength r
+itemLength (override o) = 6
+itemLength (opposition x) = 12
+
+length-override : (o : Override) → length (encodedOverride o) ≡ 6
+unfolding encodedOverride
+length-override o = refl
+
+length-opposition : (x : Opposition) → length (encodedOpposition x) ≡ 12
+unfolding encodedOpposition
+length-opposition x =
+    omega (arith, length-append (encoded (Signed (x .one))) (encoded (Signed (x .other))), length-encoded (Signed (x .one)), length-encoded (Signed (x .other)))
+
+pub length-encoded-item : (i : Item) → length (encodedItem i) ≡ itemLength i
+unfolding encodedItem itemLength
+length-encoded-item (rule r) = length-encoded-rule r
+length-encoded-item (override o) = length-override o
+length-encoded-item (opposition x) = length-opposition x
+
+-- an item has six bytes at least, so that a file has no more items than bytes
+pub item-large : (i : Item) → 6 ≤ itemLength i
+unfolding itemLength
+item-large (rule r) = omega (arith, record-large r)
+item-large (override o) = omega arith
+item-large (opposition x) = omega arith
+
+items-below : (is : List Item) → length is ≤ length (encodedItems is)
+unfolding encodedItems
+items-below [] = omega arith
+items-below (i ∷ is) =
+    omega (arith, length-append (encodedItem i) (encodedItems is), length-encoded-item i, item-large i, items-below is)
+
+pub items-below-length : (is : List Item) → length is ≤ length (encodedFile is)
+unfolding encodedFile
+items-below-length is = omega (arith, length-append (encodedItems is) (encodedEnd (length (rules is))), items-below is)
+
+-- the records of an append
+pub encoded-items-append : (is js : List Item) → encodedItems (is ++ js) ≡ encodedItems is ++ encodedItems js
+unfolding encodedItems
+encoded-items-append [] js = refl
+encoded-items-append (i ∷ is) js =
+    ap (λ (bs : List ℕ). encodedItem i ++ bs) (encoded-items-append is js) ∙ sym (append-assoc (encodedItem i) (encodedItems is) (encodedItems js))
+
+-- the written rules take no more bytes than the file
+pub rules-within : (is : List Item) → length (encodedRules (rules is)) ≤ length (encodedItems is)
+unfolding encodedItems encodedItem encodedRules rules
+rules-within [] = omega arith
+rules-within (rule r ∷ is) =
+    omega (arith, length-append (encodedRule r) (encodedItems is), length-append (encodedRule r) (encodedRules (rules is)), rules-within is)
+rules-within (override o ∷ is) = omega (arith, length-append (encodedOverride o) (encodedItems is), rules-within is)
+rules-within (opposition x ∷ is) = omega (arith, length-append (encodedOpposition x) (encodedItems is), rules-within is)

@@ -1,20 +1,22 @@
 -- Laws of marks: what the two first bytes of a part say. Assumes nothing.
-use Prim.Native.Nat.{ℕ}
+use Prim.Native.Nat.{ℕ, _<_}
 use mathlib.Core.Path.{_≡_}
 use mathlib.Core.Bool.{true, false, _&&_, and-true, and-false}
 use mathlib.Core.List.{List}
-use lib.Dec.{eqb}
+use lib.Dec.{ltb, eqb}
 use lib.ListN.{getD}
-use borrow.Author.Tests.{eq-eqb, ne-eqb}
+use borrow.Author.Tests.{lt-ltb, eq-eqb, ne-eqb}
 use Rattle.literal.specs.declared.Limits.{Limits}
 use Rattle.record.specs.declared.Mark.{Mark}
-use Rattle.record.specs.declared.Mark.the-variants.{RuleMark, EndMark, NoMark}
-use Rattle.record.specs.Header.{strictLetter, defeasibleLetter, endLetter, letterOf, colon}
+use Rattle.record.specs.declared.Mark.the-variants.{RuleMark, OverrideMark, OppositionMark, EndMark, NoMark}
+use Rattle.record.specs.Header.{strictLetter, defeasibleLetter, endLetter, overrideLetter, oppositionLetter, letterOf, colon}
 use Rattle.record.specs.Reading.{marked, pickMark, markAt}
 
 -- the mark of a letter, before a colon
 pub letterMark : Limits → ℕ → Mark
-letterMark F letter = pickMark (eqb letter strictLetter) (eqb letter defeasibleLetter && F .defeasible) (eqb letter endLetter)
+letterMark F letter =
+    pickMark (eqb letter strictLetter) (eqb letter defeasibleLetter && F .defeasible) (eqb letter overrideLetter && ltb 0 (F .sheets))
+    (eqb letter oppositionLetter && ltb 0 (F .sheets)) (eqb letter endLetter)
 
 module _ (F : Limits) (t : List ℕ) where
   -- without a colon there is no mark
@@ -25,6 +27,8 @@ module _ (F : Limits) (t : List ℕ) where
         ne-eqb (getD t 1 0) colon n,
         and-false (eqb (letterOf t) strictLetter),
         and-false (eqb (letterOf t) defeasibleLetter),
+        and-false (eqb (letterOf t) overrideLetter),
+        and-false (eqb (letterOf t) oppositionLetter),
         and-false (eqb (letterOf t) endLetter),
       )
 
@@ -36,6 +40,8 @@ module _ (F : Limits) (t : List ℕ) where
         eq-eqb (getD t 1 0) colon e,
         and-true (eqb (letterOf t) strictLetter),
         and-true (eqb (letterOf t) defeasibleLetter),
+        and-true (eqb (letterOf t) overrideLetter),
+        and-true (eqb (letterOf t) oppositionLetter),
         and-true (eqb (letterOf t) endLetter),
       )
 
@@ -52,10 +58,28 @@ module _ (F : Limits) (l : ℕ) where
   unfolding letterMark pickMark
   letter-d-plain e d = rw (e, d)
 
+  pub letter-o : l ≡ overrideLetter → 0 < F .sheets → letterMark F l ≡ OverrideMark
+  unfolding letterMark pickMark
+  letter-o e d = rw (e, lt-ltb 0 (F .sheets) d)
+
+  pub letter-o-none : l ≡ overrideLetter → ltb 0 (F .sheets) ≡ false → letterMark F l ≡ NoMark
+  unfolding letterMark pickMark
+  letter-o-none e d = rw (e, d)
+
+  pub letter-x : l ≡ oppositionLetter → 0 < F .sheets → letterMark F l ≡ OppositionMark
+  unfolding letterMark pickMark
+  letter-x e d = rw (e, lt-ltb 0 (F .sheets) d)
+
+  pub letter-x-none : l ≡ oppositionLetter → ltb 0 (F .sheets) ≡ false → letterMark F l ≡ NoMark
+  unfolding letterMark pickMark
+  letter-x-none e d = rw (e, d)
+
   pub letter-e : l ≡ endLetter → letterMark F l ≡ EndMark
   unfolding letterMark pickMark
   letter-e e = rw e
 
-  pub letter-other : (l ≡ strictLetter → ⊥) → (l ≡ defeasibleLetter → ⊥) → (l ≡ endLetter → ⊥) → letterMark F l ≡ NoMark
+  pub letter-other : (l ≡ strictLetter → ⊥) → (l ≡ defeasibleLetter → ⊥) → (l ≡ overrideLetter → ⊥) → (l ≡ oppositionLetter → ⊥) → (l ≡ endLetter → ⊥)
+      → letterMark F l ≡ NoMark
   unfolding letterMark pickMark
-  letter-other s d e = rw (ne-eqb l strictLetter s, ne-eqb l defeasibleLetter d, ne-eqb l endLetter e)
+  letter-other s d o x e =
+      rw (ne-eqb l strictLetter s, ne-eqb l defeasibleLetter d, ne-eqb l overrideLetter o, ne-eqb l oppositionLetter x, ne-eqb l endLetter e)

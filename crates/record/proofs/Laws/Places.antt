@@ -11,6 +11,7 @@ use Rattle.buffer.specs.Bytes.{numberAt}
 use Rattle.literal.specs.declared.Limits.{Limits}
 use Rattle.literal.specs.declared.SignedAtom.{SignedAtom}
 use Rattle.literal.specs.declared.Literal.{Literal}
+use Rattle.literal.specs.declared.Literal.the-variants.{Signed, Defeated, Derived, RuleDefeated}
 use Rattle.literal.specs.Literal.{Decoded}
 use Rattle.literal.specs.Literal.{Valid, Wrong}
 use Rattle.literal.specs.Literal.{decoded}
@@ -18,14 +19,16 @@ use Rattle.semantics.specs.Rule.{Rule, defeasible}
 use Rattle.record.specs.declared.Reason.the-variants.{LiteralWrong, HeadWrong}
 use Rattle.record.specs.declared.Refusal.{Refusal}
 use Rattle.record.specs.declared.Mark.{Mark}
-use Rattle.record.specs.declared.Mark.the-variants.{RuleMark, EndMark, NoMark}
+use Rattle.record.specs.declared.Mark.the-variants.{RuleMark, OverrideMark, OppositionMark, EndMark, NoMark}
 use Rattle.record.specs.declared.Step.{Step}
+use Rattle.record.specs.declared.Held.{Held}
+use Rattle.record.specs.declared.Found.{Found}
 use Rattle.record.specs.Header.{headCount, positiveCount, nafCount}
 use Rattle.record.specs.Refusal.{refusal}
 use Rattle.record.specs.Result.{Result, accepted, refused, andThen, refuseIf}
-use Rattle.record.specs.Reading.{literalsAt, optionsOf, defeasibleRule, ruleOf, bodyAt, ruleAt, endAt, markAt, markedRecord, recordAt}
-use Rattle.record.specs.Code.{stepOf}
-use Rattle.record.proofs.Laws.Program.{step-refused}
+use Rattle.record.specs.Reading.{literalsAt, optionsOf, defeasibleRule, ruleOf, bodyAt, ruleAt, overrideAt, signedOf, signedAt, oppositionOf, oppositionAt, endAt, markAt, markedRecord, recordAt}
+use Rattle.record.specs.Code.{stepOf, foundOf}
+use Rattle.record.proofs.Laws.Program.{step-refused, found-refused}
 
 -- a refusal's place is at most k
 abbrev pub Placed : {A : Type 0} → ℕ → Result A → Type 0
@@ -96,15 +99,48 @@ end-placed k n t =
     refuse-if-placed k _ _ _ (omega arith)
     (λ e. refuse-if-placed k _ _ _ (omega arith) (λ e. tt))
 
-pub record-placed : (F : Limits) (n : ℕ) (t : List ℕ) → Placed (length t) (recordAt F n t)
-unfolding recordAt markedRecord
-record-placed F n t = refuse-if-placed (length t) _ _ _ (omega arith) (λ e. go (markAt F t))
+override-placed : (F : Limits) (k n : ℕ) (t : List ℕ) → Placed k (overrideAt F n t)
+unfolding overrideAt
+override-placed F k n t =
+    refuse-if-placed k _ _ _ (omega arith)
+    (λ e. refuse-if-placed k _ _ _ (omega arith)
+    (λ e. refuse-if-placed k _ _ _ (omega arith)
+    (λ e. refuse-if-placed k _ _ _ (omega arith) (λ e. tt))))
+
+signed-placed : (F : Limits) (t : List ℕ) (k at : ℕ) → at ≤ k → Placed k (signedAt F t at)
+unfolding signedAt signedOf
+signed-placed F t k at h = go (decoded F (drop at t))
   where
-    go : (m : Mark) → Placed (length t) (markedRecord F m n t)
-    go (RuleMark d) = rule-placed F d n t
-    go EndMark = end-placed (length t) n t
+    go : (d : Decoded) → Placed k (signedOf d at)
+    go (Valid (Signed a)) = tt
+    go (Valid (Defeated t a)) = h
+    go (Valid (Derived t a)) = h
+    go (Valid (RuleDefeated n)) = h
+    go Wrong = h
+
+opposition-placed : (F : Limits) (n : ℕ) (t : List ℕ) → Placed (length t) (oppositionAt F n t)
+unfolding oppositionAt oppositionOf
+opposition-placed F n t =
+    refuse-if-placed (length t) _ _ _ (omega arith)
+    (λ e. refuse-if-placed (length t) _ _ _ (omega arith)
+    (λ e. and-then-placed (length t) (signedAt F t 2) _ (signed-placed F t (length t) 2 (omega (arith, ltb-false (length t) 12 e)))
+    (λ a. and-then-placed (length t) (signedAt F t 7) _ (signed-placed F t (length t) 7 (omega (arith, ltb-false (length t) 12 e)))
+    (λ b. refuse-if-placed (length t) _ _ _ (omega arith) (λ e. tt)))))
+
+pub record-placed : (F : Limits) (h : Held) (t : List ℕ) → Placed (length t) (recordAt F h t)
+unfolding recordAt markedRecord
+record-placed F h t = refuse-if-placed (length t) _ _ _ (omega arith) (λ e. go (markAt F t))
+  where
+    go : (m : Mark) → Placed (length t) (markedRecord F m h t)
+    go (RuleMark d) = rule-placed F d (h .rules) t
+    go OverrideMark = override-placed F (length t) (h .overrides) t
+    go OppositionMark = opposition-placed F (h .oppositions) t
+    go EndMark = end-placed (length t) (h .rules) t
     go NoMark = omega arith
 
 -- a record's refusal lies within its part
-pub step-place : (F : Limits) (n : ℕ) (t : List ℕ) (x : Refusal) → stepOf (recordAt F n t) ≡ Step.Refused x → x .place ≤ length t
-step-place F n t x e = subst (Placed (length t)) (step-refused (recordAt F n t) x e) (record-placed F n t)
+pub step-place : (F : Limits) (h : Held) (t : List ℕ) (x : Refusal) → stepOf (recordAt F h t) ≡ Step.Refused x → x .place ≤ length t
+step-place F h t x e = subst (Placed (length t)) (step-refused (recordAt F h t) x e) (record-placed F h t)
+
+pub found-place : (F : Limits) (h : Held) (t : List ℕ) (x : Refusal) → foundOf h (stepOf (recordAt F h t)) ≡ Found.Refused x → x .place ≤ length t
+found-place F h t x e = subst (Placed (length t)) (found-refused h (recordAt F h t) x e) (record-placed F h t)

@@ -1,5 +1,5 @@
--- What reading accepts: an accepted record is the encoding of its rule, which keeps the form's limits.
--- In order: a run of literals; the first seven bytes; marks; the rule; one record; the program.
+-- What reading accepts: an accepted record is the encoding of its item, which keeps the form's limits.
+-- In order: a run of literals; the first bytes; marks; the rule; sheet records; one record; the file.
 -- Assumes nothing.
 use Prim.Native.Nat.{ℕ, zero, suc, _+_, _*_, _≤_, _<_}
 use native.Mathlib.Omega.{arith}
@@ -9,7 +9,7 @@ use mathlib.Core.Bool.{Bool, true, false, not, _&&_, true≢false}
 use mathlib.Core.Logic.{_⊎_, inl, inr}
 use mathlib.Core.List.{List, [], _∷_, _++_, map, append-assoc}
 use mathlib.Core.Option.{Option, none, some}
-use lib.Dec.{T, leb, eqb, eqb→eq, le→leb}
+use lib.Dec.{T, ltb, leb, eqb, eqb→eq, le→leb}
 use lib.ListN.{length, getD, take, drop, length-take, length-drop, take-append-drop, length-map}
 use lib.Seq.{take-add, drop-drop}
 use borrow.Author.Tests.{ltb-false, leb-false, not-false}
@@ -21,19 +21,23 @@ use Rattle.literal.specs.declared.Literal.{Literal}
 use Rattle.literal.specs.declared.Literal.the-variants.{Signed, Defeated, Derived, RuleDefeated}
 use Rattle.literal.specs.Literal.{Decoded, Valid, Wrong, encoded, decoded, takes, inRange}
 use Rattle.literal.proofs.Laws.Literal.{encoded-decoded}
-use Rattle.semantics.specs.Set.{eachOf}
-use Rattle.semantics.specs.Rule.{Rule, strict, defeasible, Program, head, positive, naf}
-use Rattle.semantics.specs.Form.{keepsCounts, keepsLiterals, keepsTag, keepsRule}
+use Rattle.semantics.specs.Set.{eachOf, sameTag, sameSigned}
+use Rattle.semantics.specs.Rule.{Rule, strict, defeasible, head, positive, naf}
+use Rattle.semantics.specs.Expansion.{Override, Opposition}
+use Rattle.semantics.specs.Item.{Item, rule, override, opposition}
+use Rattle.semantics.specs.Form.{keepsCounts, keepsLiterals, keepsTag, keepsRule, keepsOverride, keepsOpposition, keepsItem}
 use Rattle.semantics.proofs.Laws.Tests.{both, first, second, along, all-append}
 use Rattle.record.specs.declared.Reason.the-variants.{LiteralWrong, HeadWrong}
 use Rattle.record.specs.declared.Mark.{Mark}
-use Rattle.record.specs.declared.Mark.the-variants.{RuleMark, EndMark, NoMark}
-use Rattle.record.specs.Header.{strictLetter, defeasibleLetter, endLetter, letterOf, headCount, positiveCount, nafCount, colon}
+use Rattle.record.specs.declared.Mark.the-variants.{RuleMark, OverrideMark, OppositionMark, EndMark, NoMark}
+use Rattle.record.specs.declared.Held.{Held}
+use Rattle.record.specs.Header.{strictLetter, defeasibleLetter, endLetter, overrideLetter, oppositionLetter, letterOf, headCount, positiveCount, nafCount, colon}
 use Rattle.record.specs.Refusal.{refusal, shifted}
 use Rattle.record.specs.Result.{Result, accepted, refused, andThen}
-use Rattle.record.specs.Layout.{encodedLiterals, ruleRecord, encodedRule, encodedRules, encodedEnd}
-use Rattle.record.specs.Reading.{Entry, rule, end, literalsAt, optionsOf, defeasibleRule, ruleOf, tagRight, bodyAt, ruleAt, endAt, marked, pickMark, markAt, markedRecord, recordAt, rulesFrom}
+use Rattle.record.specs.Layout.{encodedLiterals, ruleRecord, encodedRule, encodedEnd, encodedOverride, encodedOpposition, encodedItem, encodedItems}
+use Rattle.record.specs.Reading.{Entry, item, end, literalsAt, optionsOf, defeasibleRule, ruleOf, tagRight, bodyAt, ruleAt, overrideAt, signedOf, signedAt, oppositionOf, oppositionAt, endAt, marked, pickMark, markAt, markedRecord, recordAt, holding, itemsFrom}
 use Rattle.record.proofs.Laws.Result.{refused-accepted, accepted-eq, and-then-accepted, refuse-if-accepted}
+use Rattle.record.proofs.Laws.Program.{heldOn}
 
 -- a run of n literals
 pub record Run (F : Limits) (bs : List ℕ) (n : ℕ) (ls : List Literal) : Type 0 where
@@ -91,6 +95,20 @@ first-seven (a ∷ b ∷ c ∷ d ∷ e ∷ []) h = absurd (omega arith)
 first-seven (a ∷ b ∷ c ∷ d ∷ e ∷ f ∷ []) h = absurd (omega arith)
 first-seven (a ∷ b ∷ c ∷ d ∷ e ∷ f ∷ g ∷ t) h = refl
 
+first-six : (t : List ℕ) → 6 ≤ length t → take 6 t ≡ letterOf t ∷ getD t 1 0 ∷ getD t 2 0 ∷ getD t 3 0 ∷ getD t 4 0 ∷ getD t 5 0 ∷ []
+first-six [] h = absurd (omega arith)
+first-six (a ∷ []) h = absurd (omega arith)
+first-six (a ∷ b ∷ []) h = absurd (omega arith)
+first-six (a ∷ b ∷ c ∷ []) h = absurd (omega arith)
+first-six (a ∷ b ∷ c ∷ d ∷ []) h = absurd (omega arith)
+first-six (a ∷ b ∷ c ∷ d ∷ e ∷ []) h = absurd (omega arith)
+first-six (a ∷ b ∷ c ∷ d ∷ e ∷ f ∷ t) h = refl
+
+first-two : (t : List ℕ) → 2 ≤ length t → take 2 t ≡ letterOf t ∷ getD t 1 0 ∷ []
+first-two [] h = absurd (omega arith)
+first-two (a ∷ []) h = absurd (omega arith)
+first-two (a ∷ b ∷ t) h = refl
+
 first-four : (t : List ℕ) → length t ≡ 4 → t ≡ letterOf t ∷ getD t 1 0 ∷ getD t 2 0 ∷ getD t 3 0 ∷ []
 first-four [] h = absurd (omega arith)
 first-four (a ∷ []) h = absurd (omega arith)
@@ -107,41 +125,86 @@ letter false = strictLetter
 rule-mark-eq : {d e : Bool} → RuleMark d ≡ RuleMark e → d ≡ e
 rule-mark-eq h = cc
 
-no-rule-mark : {d : Bool} → NoMark ≡ RuleMark d → ⊥
-no-rule-mark e = let z : _≡_ {A = ℕ} 0 1 = cc in omega arith
-
-end-rule-mark : {d : Bool} → EndMark ≡ RuleMark d → ⊥
-end-rule-mark e = let z : _≡_ {A = ℕ} 0 1 = cc in omega arith
+-- which mark it is, as a number
+markNumber : Mark → ℕ
+markNumber (RuleMark d) = 0
+markNumber OverrideMark = 1
+markNumber OppositionMark = 2
+markNumber EndMark = 3
+markNumber NoMark = 4
 
 -- a rule's mark: S:, or D: in a form with defeasible rules
 record MarkIs (F : Limits) (t : List ℕ) (d : Bool) : Type 0 where
   letters : T (marked (letter d) t)
   form : T d → T (F .defeasible)
 
-pick-rule : (F : Limits) (t : List ℕ) (a b c d : Bool) → (T a → T (marked strictLetter t))
-    → (T b → T (marked defeasibleLetter t && F .defeasible)) → pickMark a b c ≡ RuleMark d → MarkIs F t d
-unfolding pickMark letter
-pick-rule F t true b c true f g e = absurd (true≢false (rule-mark-eq (sym e)))
-pick-rule F t true b c false f g e = record { letters = f tt; form = λ z. absurd z }
-pick-rule F t false true c true f g e =
-    record { letters = first (marked defeasibleLetter t) (F .defeasible) (g tt); form = λ z. second (marked defeasibleLetter t) (F .defeasible) (g tt) }
-pick-rule F t false true c false f g e = absurd (true≢false (rule-mark-eq e))
-pick-rule F t false false true d f g e = absurd (end-rule-mark e)
-pick-rule F t false false false d f g e = absurd (no-rule-mark e)
+-- marks of different numbers differ
+other-mark : {A : Type 0} (m n : Mark) → m ≡ n → (markNumber m ≡ markNumber n → ⊥) → A
+other-mark m n e f = absurd (f (ap markNumber e))
 
-mark-rule : (F : Limits) (t : List ℕ) (d : Bool) → markAt F t ≡ RuleMark d → MarkIs F t d
-unfolding markAt
-mark-rule F t d e = pick-rule F t (marked strictLetter t) (marked defeasibleLetter t && F .defeasible) (marked endLetter t) d (λ z. z) (λ z. z) e
+module _ (F : Limits) (t : List ℕ) where
+  pick-rule : (a b o x c d : Bool) → (T a → T (marked strictLetter t))
+      → (T b → T (marked defeasibleLetter t && F .defeasible)) → pickMark a b o x c ≡ RuleMark d → MarkIs F t d
+  unfolding pickMark letter markNumber
+  pick-rule true b o x c true f g e = absurd (true≢false (rule-mark-eq (sym e)))
+  pick-rule true b o x c false f g e = record { letters = f tt; form = λ z. absurd z }
+  pick-rule false true o x c true f g e =
+      record { letters = first (marked defeasibleLetter t) (F .defeasible) (g tt); form = λ z. second (marked defeasibleLetter t) (F .defeasible) (g tt) }
+  pick-rule false true o x c false f g e = absurd (true≢false (rule-mark-eq e))
+  pick-rule false false true x c d f g e = other-mark OverrideMark (RuleMark d) e (λ z. omega arith)
+  pick-rule false false false true c d f g e = other-mark OppositionMark (RuleMark d) e (λ z. omega arith)
+  pick-rule false false false false true d f g e = other-mark EndMark (RuleMark d) e (λ z. omega arith)
+  pick-rule false false false false false d f g e = other-mark NoMark (RuleMark d) e (λ z. omega arith)
 
-mark-end : (F : Limits) (t : List ℕ) → markAt F t ≡ EndMark → T (marked endLetter t)
-unfolding markAt pickMark
-mark-end F t e = go (marked strictLetter t) (marked defeasibleLetter t && F .defeasible) (marked endLetter t) e
-  where
-    go : (a b c : Bool) → pickMark a b c ≡ EndMark → T c
-    go true b c f = absurd (end-rule-mark (sym f))
-    go false true c f = absurd (end-rule-mark (sym f))
-    go false false true f = tt
-    go false false false f = let z : _≡_ {A = ℕ} 0 1 = cc in absurd (omega arith)
+  mark-rule : (d : Bool) → markAt F t ≡ RuleMark d → MarkIs F t d
+  unfolding markAt
+  mark-rule d e =
+      pick-rule (marked strictLetter t) (marked defeasibleLetter t && F .defeasible) (marked overrideLetter t && ltb 0 (F .sheets))
+      (marked oppositionLetter t && ltb 0 (F .sheets)) (marked endLetter t) d (λ z. z) (λ z. z) e
+
+  mark-override : markAt F t ≡ OverrideMark → T (marked overrideLetter t)
+  unfolding markAt pickMark markNumber
+  mark-override e =
+      first (marked overrideLetter t) (ltb 0 (F .sheets))
+      (go (marked strictLetter t) (marked defeasibleLetter t && F .defeasible) (marked overrideLetter t && ltb 0 (F .sheets))
+      (marked oppositionLetter t && ltb 0 (F .sheets)) (marked endLetter t) e)
+    where
+      go : (a b o x c : Bool) → pickMark a b o x c ≡ OverrideMark → T o
+      go true b o x c f = other-mark (RuleMark false) OverrideMark f (λ z. omega arith)
+      go false true o x c f = other-mark (RuleMark true) OverrideMark f (λ z. omega arith)
+      go false false true x c f = tt
+      go false false false true c f = other-mark OppositionMark OverrideMark f (λ z. omega arith)
+      go false false false false true f = other-mark EndMark OverrideMark f (λ z. omega arith)
+      go false false false false false f = other-mark NoMark OverrideMark f (λ z. omega arith)
+
+  mark-opposition : markAt F t ≡ OppositionMark → T (marked oppositionLetter t)
+  unfolding markAt pickMark markNumber
+  mark-opposition e =
+      first (marked oppositionLetter t) (ltb 0 (F .sheets))
+      (go (marked strictLetter t) (marked defeasibleLetter t && F .defeasible) (marked overrideLetter t && ltb 0 (F .sheets))
+      (marked oppositionLetter t && ltb 0 (F .sheets)) (marked endLetter t) e)
+    where
+      go : (a b o x c : Bool) → pickMark a b o x c ≡ OppositionMark → T x
+      go true b o x c f = other-mark (RuleMark false) OppositionMark f (λ z. omega arith)
+      go false true o x c f = other-mark (RuleMark true) OppositionMark f (λ z. omega arith)
+      go false false true x c f = other-mark OverrideMark OppositionMark f (λ z. omega arith)
+      go false false false true c f = tt
+      go false false false false true f = other-mark EndMark OppositionMark f (λ z. omega arith)
+      go false false false false false f = other-mark NoMark OppositionMark f (λ z. omega arith)
+
+  mark-end : markAt F t ≡ EndMark → T (marked endLetter t)
+  unfolding markAt pickMark markNumber
+  mark-end e =
+      go (marked strictLetter t) (marked defeasibleLetter t && F .defeasible) (marked overrideLetter t && ltb 0 (F .sheets))
+      (marked oppositionLetter t && ltb 0 (F .sheets)) (marked endLetter t) e
+    where
+      go : (a b o x c : Bool) → pickMark a b o x c ≡ EndMark → T c
+      go true b o x c f = other-mark (RuleMark false) EndMark f (λ z. omega arith)
+      go false true o x c f = other-mark (RuleMark true) EndMark f (λ z. omega arith)
+      go false false true x c f = other-mark OverrideMark EndMark f (λ z. omega arith)
+      go false false false true c f = other-mark OppositionMark EndMark f (λ z. omega arith)
+      go false false false false true f = tt
+      go false false false false false f = other-mark NoMark EndMark f (λ z. omega arith)
 
 -- options are the head literals
 options-of : (ls : List Literal) (h : List SignedAtom) → optionsOf ls ≡ some h → map Signed h ≡ ls
@@ -291,65 +354,164 @@ marked-header d t bytes h m =
     ∙ ap (λ (xs : List ℕ). letter d ∷ colon ∷ (xs ++ (headCount t ∷ positiveCount t ∷ nafCount t ∷ [])))
     (sym (twoBytes-number (getD t 2 0) (getD t 3 0) (bytes 3)))
 
--- an accepted rule record
-pub record RuleRead (F : Limits) (n : ℕ) (t : List ℕ) (r : Rule) (size : ℕ) : Type 0 where
-  pub bytes : take size t ≡ encodedRule r
-  pub fits : size ≤ length t
-  pub large : 7 ≤ size
-  pub keeps : T (keepsRule F r)
-  pub room : n < F .rules
+-- what is held is within the form's limits
+pub record Fitting (F : Limits) (h : Held) : Type 0 where
+  pub rules : h .rules ≤ F .rules
+  pub overrides : h .overrides ≤ F .sheets
+  pub oppositions : h .oppositions ≤ F .sheets
 
--- an entry that is a rule
-pub record EntryRule (F : Limits) (n : ℕ) (t : List ℕ) (e : Entry) : Type 0 where
-  pub rule-read : Rule
+-- an item's record, where h is held
+pub record ItemRead (F : Limits) (h : Held) (t : List ℕ) (i : Item) (size : ℕ) : Type 0 where
+  pub bytes : take size t ≡ encodedItem i
+  pub keeps : T (keepsItem F i)
+  pub room : Fitting F (holding h i)
+
+-- an entry that is an item
+pub record EntryItem (F : Limits) (h : Held) (t : List ℕ) (e : Entry) : Type 0 where
+  pub item-read : Item
   pub size : ℕ
-  pub same : rule rule-read size ≡ e
-  pub read : RuleRead F n t rule-read size
+  pub same : item item-read size ≡ e
+  pub read : ItemRead F h t item-read size
 
 passes : (b : Bool) → not b ≡ false → T b
 passes b e = along (sym (not-false b e)) tt
 
-module _ (F : Limits) where
+module _ (F : Limits) (h : Held) (fitting : Fitting F h) (t : List ℕ) (bytes : Bytes t) (e : Entry) where
   -- the literals of a record whose header is right
-  body-sound : (d : Bool) (n : ℕ) (t : List ℕ) → Bytes t → MarkIs F t d → 7 ≤ length t → n < F .rules → T (tagRight F d (numberAt t 2))
-      → T (keepsCounts F (headCount t) (positiveCount t) (nafCount t)) → (e : Entry)
-      → bodyAt F d t (headCount t) (positiveCount t) (nafCount t) ≡ accepted e → EntryRule F n t e
-  unfolding bodyAt
-  body-sound d n t bytes m seven room right counts e q =
-      let h = headCount t in
+  body-sound : (d : Bool) → MarkIs F t d → 7 ≤ length t → h .rules < F .rules → T (tagRight F d (numberAt t 2))
+      → T (keepsCounts F (headCount t) (positiveCount t) (nafCount t))
+      → bodyAt F d t (headCount t) (positiveCount t) (nafCount t) ≡ accepted e → EntryItem F h t e
+  unfolding bodyAt encodedItem keepsItem holding
+  body-sound d m seven room right counts q =
+      let a = headCount t in
       let b = positiveCount t in
       let c = nafCount t in
       let q1 = refuse-if-accepted _ _ _ e q in
-      let q2 = and-then-accepted (literalsAt F t 7 (h + b + c)) _ e (q1 .1) in
-      let q3 = and-then-accepted (ruleOf d (numberAt t 2) h b (q2 .0)) _ e (q2 .2) in
-      let fits = ltb-false (length t) (7 + 5 * (h + b + c)) (q1 .0) in
-      let run = literals-sound F t bytes (h + b + c) 7 (q2 .0) fits (q2 .1) in
-      let is = rule-of F (numberAt t 2) h b c (q2 .0) (run .count) counts (run .taken) d right (m .form) (q3 .0) (q3 .1) in
+      let q2 = and-then-accepted (literalsAt F t 7 (a + b + c)) _ e (q1 .1) in
+      let q3 = and-then-accepted (ruleOf d (numberAt t 2) a b (q2 .0)) _ e (q2 .2) in
+      let fits = ltb-false (length t) (7 + 5 * (a + b + c)) (q1 .0) in
+      let run = literals-sound F t bytes (a + b + c) 7 (q2 .0) fits (q2 .1) in
+      let is = rule-of F (numberAt t 2) a b c (q2 .0) (run .count) counts (run .taken) d right (m .form) (q3 .0) (q3 .1) in
       record {
-        rule-read = q3 .0;
-        size = 7 + 5 * (h + b + c);
+        item-read = rule (q3 .0);
+        size = 7 + 5 * (a + b + c);
         same = accepted-eq (q3 .2);
         read =
             record {
               bytes =
-                  take-add 7 (5 * (h + b + c)) t
+                  take-add 7 (5 * (a + b + c)) t
                   ∙ ap₂ (λ (x y : List ℕ). x ++ y) (marked-header d t bytes seven (m .letters)) (run .bytes) ∙ sym (is .bytes);
-              fits = fits;
-              large = omega arith;
               keeps = is .keeps;
-              room = room;
+              room = record { rules = omega arith; overrides = fitting .overrides; oppositions = fitting .oppositions };
             };
       }
 
-  rule-sound : (d : Bool) (n : ℕ) (t : List ℕ) → Bytes t → MarkIs F t d → (e : Entry) → ruleAt F d n t ≡ accepted e → EntryRule F n t e
+  rule-sound : (d : Bool) → MarkIs F t d → ruleAt F d (h .rules) t ≡ accepted e → EntryItem F h t e
   unfolding ruleAt
-  rule-sound d n t bytes m e q =
+  rule-sound d m q =
       let q1 = refuse-if-accepted _ _ _ e q in
       let q2 = refuse-if-accepted _ _ _ e (q1 .1) in
       let q3 = refuse-if-accepted _ _ _ e (q2 .1) in
       let q4 = refuse-if-accepted _ _ _ e (q3 .1) in
-      body-sound d n t bytes m (ltb-false (length t) 7 (q1 .0)) (leb-false (F .rules) n (q2 .0)) (passes (tagRight F d (numberAt t 2)) (q3 .0))
-      (passes (keepsCounts F (headCount t) (positiveCount t) (nafCount t)) (q4 .0)) e (q4 .1)
+      body-sound d m (ltb-false (length t) 7 (q1 .0)) (leb-false (F .rules) (h .rules) (q2 .0)) (passes (tagRight F d (numberAt t 2)) (q3 .0))
+      (passes (keepsCounts F (headCount t) (positiveCount t) (nafCount t)) (q4 .0)) (q4 .1)
+
+  -- two tags behind a mark
+  override-bytes : 6 ≤ length t → T (marked overrideLetter t)
+      → take 6 t ≡ overrideLetter ∷ colon ∷ (twoBytes (numberAt t 2) ++ twoBytes (numberAt t 4))
+  unfolding marked
+  override-bytes six m =
+      first-six t six
+      ∙ ap₂ (λ (x y : ℕ). x ∷ y ∷ getD t 2 0 ∷ getD t 3 0 ∷ getD t 4 0 ∷ getD t 5 0 ∷ [])
+      (eqb→eq (letterOf t) overrideLetter (first (eqb (letterOf t) overrideLetter) (eqb (getD t 1 0) colon) m))
+      (eqb→eq (getD t 1 0) colon (second (eqb (letterOf t) overrideLetter) (eqb (getD t 1 0) colon) m))
+      ∙ ap₂ (λ (xs ys : List ℕ). overrideLetter ∷ colon ∷ (xs ++ ys))
+      (sym (twoBytes-number (getD t 2 0) (getD t 3 0) (bytes 3))) (sym (twoBytes-number (getD t 4 0) (getD t 5 0) (bytes 5)))
+
+  override-sound : T (marked overrideLetter t) → overrideAt F (h .overrides) t ≡ accepted e → EntryItem F h t e
+  unfolding overrideAt encodedItem encodedOverride keepsItem keepsOverride holding
+  override-sound m q =
+      let q1 = refuse-if-accepted _ _ _ e q in
+      let q2 = refuse-if-accepted _ _ _ e (q1 .1) in
+      let q3 = refuse-if-accepted _ _ _ e (q2 .1) in
+      let q4 = refuse-if-accepted _ _ _ e (q3 .1) in
+      let tags = inRange (F .tags) (numberAt t 2) && inRange (F .tags) (numberAt t 4) in
+      record {
+        item-read = override (record { upper = record { 0 = numberAt t 2 }; lower = record { 0 = numberAt t 4 } });
+        size = 6;
+        same = accepted-eq (q4 .1);
+        read =
+            record {
+              bytes = override-bytes (ltb-false (length t) 6 (q2 .0)) m;
+              keeps =
+                  both tags (not (eqb (numberAt t 2) (numberAt t 4))) (passes tags (q3 .0)) (along (sym (ap not (q4 .0))) tt);
+              room =
+                  record {
+                    rules = fitting .rules;
+                    overrides = omega (arith, leb-false (F .sheets) (h .overrides) (q1 .0));
+                    oppositions = fitting .oppositions;
+                  };
+            };
+      }
+
+  -- an option's five bytes
+  signed-sound : (at : ℕ) (a : SignedAtom) → at + 5 ≤ length t → signedAt F t at ≡ accepted a
+      → (take 5 (drop at t) ≡ encoded (Signed a)) × T (takes F (Signed a))
+  unfolding signedAt signedOf
+  signed-sound at a fits q = go (decoded F (drop at t)) refl q
+    where
+      go : (d : Decoded) → decoded F (drop at t) ≡ d → signedOf d at ≡ accepted a → (take 5 (drop at t) ≡ encoded (Signed a)) × T (takes F (Signed a))
+      go (Valid (Signed b)) w f =
+          encoded-decoded F (drop at t) (Signed a) (bytes-drop at t bytes) (omega (arith, length-drop at t))
+          (w ∙ ap (λ (c : SignedAtom). Valid (Signed c)) (accepted-eq f))
+      go (Valid (Defeated u b)) w f = absurd (refused-accepted f)
+      go (Valid (Derived u b)) w f = absurd (refused-accepted f)
+      go (Valid (RuleDefeated n)) w f = absurd (refused-accepted f)
+      go Wrong w f = absurd (refused-accepted f)
+
+  opposition-bytes : 12 ≤ length t → T (marked oppositionLetter t) → (a b : SignedAtom) → take 5 (drop 2 t) ≡ encoded (Signed a)
+      → take 5 (drop 7 t) ≡ encoded (Signed b) → take 12 t ≡ oppositionLetter ∷ colon ∷ (encoded (Signed a) ++ encoded (Signed b))
+  unfolding marked
+  opposition-bytes twelve m a b one other =
+      take-add 2 10 t
+      ∙ ap₂ (λ (x y : List ℕ). x ++ y)
+      (first-two t (omega arith)
+      ∙ ap₂ (λ (x y : ℕ). x ∷ y ∷ [])
+      (eqb→eq (letterOf t) oppositionLetter (first (eqb (letterOf t) oppositionLetter) (eqb (getD t 1 0) colon) m))
+      (eqb→eq (getD t 1 0) colon (second (eqb (letterOf t) oppositionLetter) (eqb (getD t 1 0) colon) m)))
+      (take-add 5 5 (drop 2 t) ∙ ap₂ (λ (x y : List ℕ). x ++ y) one (ap (take 5) (drop-drop 5 2 t) ∙ other))
+
+  opposition-sound : T (marked oppositionLetter t) → oppositionAt F (h .oppositions) t ≡ accepted e → EntryItem F h t e
+  unfolding oppositionAt oppositionOf encodedItem encodedOpposition keepsItem keepsOpposition holding
+  opposition-sound m q =
+      let q1 = refuse-if-accepted _ _ _ e q in
+      let q2 = refuse-if-accepted _ _ _ e (q1 .1) in
+      let q3 = and-then-accepted (signedAt F t 2) _ e (q2 .1) in
+      let q4 = and-then-accepted (signedAt F t 7) _ e (q3 .2) in
+      let q5 = refuse-if-accepted _ _ _ e (q4 .2) in
+      let twelve = ltb-false (length t) 12 (q2 .0) in
+      let a = q3 .0 in
+      let b = q4 .0 in
+      let one = signed-sound 2 a (omega (arith, twelve)) (q3 .1) in
+      let other = signed-sound 7 b (omega (arith, twelve)) (q4 .1) in
+      record {
+        item-read = opposition (record { one = a; other = b });
+        size = 12;
+        same = accepted-eq (q5 .1);
+        read =
+            record {
+              bytes = opposition-bytes twelve m a b (one .0) (other .0);
+              keeps =
+                  both (takes F (Signed a) && takes F (Signed b)) (not (sameSigned a b))
+                  (both (takes F (Signed a)) (takes F (Signed b)) (one .1) (other .1)) (along (sym (ap not (q5 .0))) tt);
+              room =
+                  record {
+                    rules = fitting .rules;
+                    overrides = fitting .overrides;
+                    oppositions = omega (arith, leb-false (F .sheets) (h .oppositions) (q1 .0));
+                  };
+            };
+      }
 
 -- an accepted end record
 end-sound : (n : ℕ) (t : List ℕ) → Bytes t → T (marked endLetter t) → (e : Entry) → endAt n t ≡ accepted e → (end ≡ e) × (t ≡ encodedEnd n)
@@ -368,65 +530,66 @@ end-sound n t bytes m e q =
           ∙ ap (λ (xs : List ℕ). endLetter ∷ colon ∷ xs) (sym (twoBytes-number (getD t 2 0) (getD t 3 0) (bytes 3)) ∙ ap twoBytes number-is),
     )
 
--- an accepted program: its bytes, and that its rules are within the form's limits
-pub record ProgramRead (F : Limits) (n : ℕ) (t : List ℕ) (p : Program) : Type 0 where
-  pub bytes : t ≡ encodedRules p ++ encodedEnd (n + length p)
-  pub keeps : T (eachOf (keepsRule F) p)
-  pub room : n + length p ≤ F .rules
+-- an accepted file: its bytes, and that its items are within the form's limits
+pub record FileRead (F : Limits) (h : Held) (t : List ℕ) (is : List Item) : Type 0 where
+  pub bytes : t ≡ encodedItems is ++ encodedEnd (heldOn h is .rules)
+  pub keeps : T (eachOf (keepsItem F) is)
+  pub room : Fitting F (heldOn h is)
 
-program-cons : (F : Limits) (n : ℕ) (t : List ℕ) (r : Rule) (size : ℕ) (p : Program) → RuleRead F n t r size
-    → ProgramRead F (n + 1) (drop size t) p → ProgramRead F n t (r ∷ p)
-unfolding encodedRules
-program-cons F n t r size p here rest =
+file-cons : (F : Limits) (h : Held) (t : List ℕ) (i : Item) (size : ℕ) (is : List Item) → ItemRead F h t i size
+    → FileRead F (holding h i) (drop size t) is → FileRead F h t (i ∷ is)
+unfolding encodedItems heldOn
+file-cons F h t i size is here rest =
     record {
       bytes =
           sym (take-append-drop size t)
-          ∙ ap₂ (λ (x y : List ℕ). x ++ y) (here .bytes) (rest .bytes ∙ ap (λ (k : ℕ). encodedRules p ++ encodedEnd k) next)
-          ∙ sym (append-assoc (encodedRule r) (encodedRules p) (encodedEnd (n + length (r ∷ p))));
-      keeps = both (keepsRule F r) (eachOf (keepsRule F) p) (here .keeps) (rest .keeps);
-      room = omega (arith, rest .room);
+          ∙ ap₂ (λ (x y : List ℕ). x ++ y) (here .bytes) (rest .bytes)
+          ∙ sym (append-assoc (encodedItem i) (encodedItems is) (encodedEnd (heldOn (holding h i) is .rules)));
+      keeps = both (keepsItem F i) (eachOf (keepsItem F) is) (here .keeps) (rest .keeps);
+      room = rest .room;
     }
-  where
-    next : n + 1 + length p ≡ n + length (r ∷ p)
-    next = omega arith
 
 module _ (F : Limits) where
-  pub record-sound : (n : ℕ) (t : List ℕ) → Bytes t → (e : Entry) → recordAt F n t ≡ accepted e → EntryRule F n t e ⊎ ((end ≡ e) × (t ≡ encodedEnd n))
+  pub record-sound : (h : Held) → Fitting F h → (t : List ℕ) → Bytes t → (e : Entry) → recordAt F h t ≡ accepted e
+      → EntryItem F h t e ⊎ ((end ≡ e) × (t ≡ encodedEnd (h .rules)))
   unfolding recordAt markedRecord
-  record-sound n t bytes e q = go (markAt F t) refl (refuse-if-accepted _ _ _ e q .1)
+  record-sound h fitting t bytes e q = go (markAt F t) refl (refuse-if-accepted _ _ _ e q .1)
     where
-      go : (m : Mark) → markAt F t ≡ m → markedRecord F m n t ≡ accepted e → EntryRule F n t e ⊎ ((end ≡ e) × (t ≡ encodedEnd n))
-      go (RuleMark d) w f = inl (rule-sound F d n t bytes (mark-rule F t d w) e f)
-      go EndMark w f = inr (end-sound n t bytes (mark-end F t w) e f)
+      go : (m : Mark) → markAt F t ≡ m → markedRecord F m h t ≡ accepted e → EntryItem F h t e ⊎ ((end ≡ e) × (t ≡ encodedEnd (h .rules)))
+      go (RuleMark d) w f = inl (rule-sound F h fitting t bytes e d (mark-rule F t d w) f)
+      go OverrideMark w f = inl (override-sound F h fitting t bytes e (mark-override F t w) f)
+      go OppositionMark w f = inl (opposition-sound F h fitting t bytes e (mark-opposition F t w) f)
+      go EndMark w f = inr (end-sound (h .rules) t bytes (mark-end F t w) e f)
       go NoMark w f = absurd (refused-accepted f)
 
-  pub rules-sound : (f : ℕ) (t : List ℕ) (at n : ℕ) (p : Program) → Bytes t → n ≤ F .rules → rulesFrom F f t at n ≡ accepted p → ProgramRead F n t p
-  unfolding rulesFrom encodedRules
-  rules-sound zero t at n p bytes room q = absurd (refused-accepted q)
-  rules-sound (suc f) t at n p bytes room q =
-      go (recordAt F n t) refl q (λ size k w z. rules-sound f (drop size t) (at + size) (n + 1) w (bytes-drop size t bytes) k z)
+  pub items-sound : (f : ℕ) (t : List ℕ) (at : ℕ) (h : Held) (is : List Item) → Bytes t → Fitting F h → itemsFrom F f t at h ≡ accepted is → FileRead F h t is
+  unfolding itemsFrom encodedItems heldOn
+  items-sound zero t at h is bytes room q = absurd (refused-accepted q)
+  items-sound (suc f) t at h is bytes room q =
+      go (recordAt F h t) refl q (λ i size k w z. items-sound f (drop size t) (at + size) (holding h i) w (bytes-drop size t bytes) k z)
     where
       Rest : Type 0
       Rest =
-          (size : ℕ) → n + 1 ≤ F .rules → (w : Program) → rulesFrom F f (drop size t) (at + size) (n + 1) ≡ accepted w → ProgramRead F (n + 1) (drop size t) w
+          (i : Item) (size : ℕ) → Fitting F (holding h i) → (w : List Item) → itemsFrom F f (drop size t) (at + size) (holding h i) ≡ accepted w
+          → FileRead F (holding h i) (drop size t) w
 
-      afterEntry : Entry → Result Program
-      afterEntry e = elim e [ rule r size ↦ andThen (rulesFrom F f (drop size t) (at + size) (n + 1)) (λ w. accepted (r ∷ w)) | end ↦ accepted [] ]
+      afterEntry : Entry → Result (List Item)
+      afterEntry e = elim e [ item i size ↦ andThen (itemsFrom F f (drop size t) (at + size) (holding h i)) (λ w. accepted (i ∷ w)) | end ↦ accepted [] ]
 
-      after : Result Entry → Result Program
+      after : Result Entry → Result (List Item)
       after x = elim x [ refused y ↦ refused (shifted at y) | accepted e ↦ afterEntry e ]
 
-      entry : (e : Entry) → EntryRule F n t e ⊎ ((end ≡ e) × (t ≡ encodedEnd n)) → afterEntry e ≡ accepted p → Rest → ProgramRead F n t p
+      entry : (e : Entry) → EntryItem F h t e ⊎ ((end ≡ e) × (t ≡ encodedEnd (h .rules))) → afterEntry e ≡ accepted is → Rest → FileRead F h t is
       entry e (inl w) z ih =
-          let z1 : afterEntry (rule (w .rule-read) (w .size)) ≡ accepted p = subst (λ (y : Entry). afterEntry y ≡ accepted p) (sym (w .same)) z in
-          let v = and-then-accepted (rulesFrom F f (drop (w .size) t) (at + w .size) (n + 1)) (λ u. accepted (w .rule-read ∷ u)) p z1 in
-          let more = ih (w .size) (omega (arith, w .read .room)) (v .0) (v .1) in
-          subst (ProgramRead F n t) (accepted-eq (v .2)) (program-cons F n t (w .rule-read) (w .size) (v .0) (w .read) more)
+          let i = w .item-read in
+          let z1 : afterEntry (item (w .item-read) (w .size)) ≡ accepted is = subst (λ (y : Entry). afterEntry y ≡ accepted is) (sym (w .same)) z in
+          let v = and-then-accepted (itemsFrom F f (drop (w .size) t) (at + w .size) (holding h (w .item-read))) (λ u. accepted (w .item-read ∷ u)) is z1 in
+          let more = ih (w .item-read) (w .size) (w .read .room) (v .0) (v .1) in
+          subst (FileRead F h t) (accepted-eq (v .2)) (file-cons F h t (w .item-read) (w .size) (v .0) (w .read) more)
       entry e (inr w) z ih =
-          let z1 : afterEntry end ≡ accepted p = subst (λ (y : Entry). afterEntry y ≡ accepted p) (sym (w .0)) z in
-          subst (ProgramRead F n t) (accepted-eq z1)
-          (record { bytes = w .1 ∙ ap encodedEnd (sym (add-zero n)); keeps = tt; room = omega arith })
+          let z1 : afterEntry end ≡ accepted is = subst (λ (y : Entry). afterEntry y ≡ accepted is) (sym (w .0)) z in
+          subst (FileRead F h t) (accepted-eq z1) (record { bytes = w .1; keeps = tt; room = room })
 
-      go : (x : Result Entry) → recordAt F n t ≡ x → after x ≡ accepted p → Rest → ProgramRead F n t p
+      go : (x : Result Entry) → recordAt F h t ≡ x → after x ≡ accepted is → Rest → FileRead F h t is
       go (refused y) w z ih = absurd (refused-accepted z)
-      go (accepted e) w z ih = entry e (record-sound n t bytes e w) z ih
+      go (accepted e) w z ih = entry e (record-sound h room t bytes e w) z ih

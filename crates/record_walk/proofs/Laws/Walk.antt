@@ -22,15 +22,16 @@ use Rattle.record.specs.Header.{endLetter, letterOf}
 use Rattle.record.specs.Layout.{encodedRule, encodedRules, encodedEnd, encodedProgram, keeps}
 use Rattle.record.specs.Reading.{parsed}
 use Rattle.record.specs.Result.{accepted}
-use Rattle.record.proofs.Laws.Layout.{length-encoded-rule, encoded-rules-append}
+use Rattle.record.proofs.Laws.Layout.{length-encoded-rule, encoded-rules-append, length-end}
 use Rattle.record.proofs.Laws.Reading.{parsed-sound}
 use Rattle.record_walk.specs.Code.{Holds, recordSize, Starts}
 use Rattle.record_walk.proofs.Laws.Fields.{strict-fields, defeasible-fields, record-size}
 
--- what was read is the encoding of its program, which keeps the form's limits
-abbrev pub holds-read : (P : Program → Type 0) (F : Limits) (s : List ℕ) (p : Program) → Bytes s → parsed F s ≡ accepted p → (T (keeps F p) → P p) → Holds P s
-holds-read P F s p bytes read asked =
-    let sound = parsed-sound F s p bytes read in
+-- what was read in a form without sheets is the encoding of its program, which keeps the form's limits
+abbrev pub holds-read : (P : Program → Type 0) (F : Limits) → F .sheets ≡ 0 → (s : List ℕ) (p : Program) → Bytes s → parsed F s ≡ accepted p
+    → (T (keeps F p) → P p) → Holds P s
+holds-read P F none s p bytes read asked =
+    let sound = parsed-sound F none s p bytes read in
     record { program = p; bytes = sound .0; asked = asked (sound .1) }
 
 -- the walk over p's records in s has come to `at`: the rules `gone` are passed
@@ -51,12 +52,8 @@ pub record More (s : List ℕ) (p gone : Program) (at : ℕ) (t : List ℕ) : Ty
   pub fits : at + recordSize t + 4 ≤ length s
   pub next : (n : ℕ) → n ≡ recordSize t → Walk s p (gone ++ the-rule ∷ []) (at + n)
 
--- an end record has four bytes, and starts with E
-length-end : (n : ℕ) → length (encodedEnd n) ≡ 4
-unfolding encodedEnd
-length-end n = refl
-
-end-letter : (n : ℕ) → letterOf (encodedEnd n) ≡ endLetter
+-- an end record starts with E
+pub end-letter : (n : ℕ) → letterOf (encodedEnd n) ≡ endLetter
 unfolding encodedEnd
 end-letter n = refl
 
@@ -66,7 +63,7 @@ no-end t (strict h b c) w e = omega (arith, strict-fields t h b c w .of-letter)
 no-end t (defeasible g h b c) w e = omega (arith, defeasible-fields t g h b c w .of-letter)
 
 -- the letter at a place is the part's
-letter-at : (s : List ℕ) (at : ℕ) → getD s at 0 ≡ letterOf (drop at s)
+pub letter-at : (s : List ℕ) (at : ℕ) → getD s at 0 ≡ letterOf (drop at s)
 letter-at s at = ap (λ (i : ℕ). getD s i 0) (sym (add-zero at)) ∙ sym (getD-drop at s 0 0)
 
 -- a rule's record, and those behind it

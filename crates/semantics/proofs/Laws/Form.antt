@@ -18,11 +18,11 @@ use Rattle.literal.proofs.Laws.Literal.{kind-most, takes-kind, takes-ranged, ta
 use Rattle.semantics.specs.Set.{LiteralSet, eachOf}
 use Rattle.semantics.specs.Rule.{Rule, strict, defeasible, Program, head, positive, naf}
 use Rattle.semantics.specs.Translation.{ruleDefeated}
-use Rattle.semantics.specs.Extension.{extension, sourceKind}
+use Rattle.semantics.specs.Extension.{defeatedRule, extension, sourceKind}
 use Rattle.semantics.specs.Form.{SetOf, keepsCounts, keepsLiterals, keepsTag, keepsRule, keepsRules, sourceRule, SourceSet}
 use Rattle.semantics.proofs.Laws.Tests.{both, first, second, all-mem, all-intro, along}
 use Rattle.semantics.proofs.Laws.Wider.{Wider, pair-wider, takes-wider}
-use Rattle.semantics.proofs.Laws.Position.{at-mem, at-below, at-from}
+use Rattle.semantics.proofs.Laws.Position.{At, at-mem, at-from, Numbered}
 use Rattle.semantics.proofs.Laws.Extension.{extension-agree, agree-signed, agree-defeated, extension-derived, extension-defeated}
 
 -- the rules of a program within the limits
@@ -156,17 +156,23 @@ module _ (F G : Limits) (covers : Covers F G) where
       (both (leb 1 n) (leb n (G .numbers)) (le→leb 1 n h) (le→leb n (G .numbers) (omega (arith, covers .numbers))))
 
   -- the extension of a set of F's literals is a set of G's
-  pub extension-within : (p : Program) → T (keepsRules F p) → (s : LiteralSet) → SourceSet s → SetOf F s → SetOf G (extension p s)
-  extension-within p k s source within = go
+  pub extension-within : (p : Program) → T (eachOf (keepsRule F) p) → Numbered (F .rules) 1 p
+      → (s : LiteralSet) → SourceSet s → SetOf F s → SetOf G (extension p s)
+  unfolding defeatedRule
+  extension-within p k numbered s source within = go
     where
+      number : (n : ℕ) (r : Rule) → At n r 1 p → T (defeatedRule s r) → T (takes G (ruleDefeated n))
+      number n (strict h b c) at d = absurd d
+      number n (defeasible t h b c) at d = covers-number n (at-from at) (numbered n t h b c at)
+
       go : (l : Literal) → T (extension p s l) → T (takes G l)
       go (Signed a) y = takes-wider F G (covers .wider) (Signed a) (within (Signed a) (along (agree-signed (extension-agree p s) a) y))
       go (Defeated t a) y = takes-wider F G (covers .wider) (Defeated t a) (within (Defeated t a) (along (agree-defeated (extension-agree p s) t a) y))
       go (Derived t a) y =
           let d = extension-derived p s source t a y in
           let o = d .offer in
-          let q = all-mem (keepsRule F) (keeps-each F p k) (at-mem (o .at)) in
+          let q = all-mem (keepsRule F) k (at-mem (o .at)) in
           covers-derived t a (kept F (defeasible t (o .options) (o .body) (o .nafs)) q .tag .range) (within (Signed a) (d .holds))
       go (RuleDefeated n) y =
           let w = extension-defeated p s source n y in
-          covers-number (n .0) (at-from (w .1)) (omega (arith, at-below (w .1), keeps-count F p k))
+          number (n .0) (w .0) (w .1) (w .2)

@@ -13,9 +13,9 @@ use Rattle.literal.specs.declared.Literal.the-variants.{Signed, Defeated, Deriv
 use Rattle.semantics.specs.Set.{eachOf}
 use Rattle.semantics.specs.Rule.{Rule, strict, defeasible, Program, head}
 use Rattle.semantics.specs.Translation.{ruleDefeated, choice, allDefeated, holdsIfDerived, derivedIfHolds, neverBoth, option, options, translatedRule, translationFrom, translation, recordLength, translatedLength, translatedLengths, translationLength, translatedCount, translatedCounts}
-use Rattle.semantics.specs.Form.{keepsRule, keepsRules}
+use Rattle.semantics.specs.Form.{keepsRule}
 use Rattle.semantics.proofs.Laws.Tests.{first, second}
-use Rattle.semantics.proofs.Laws.Form.{keeps-each, kept}
+use Rattle.semantics.proofs.Laws.Form.{kept}
 
 -- the bytes of a program's records, and of the program: an end record follows
 unfoldable pub recordsLength : Program → ℕ
@@ -79,6 +79,24 @@ from-count n [] = refl
 from-count n (r ∷ p) =
     length-append (translatedRule n r) (translationFrom (n + 1) p) ∙ ap₂ (λ (x y : ℕ). x + y) (rule-count n r) (from-count (n + 1) p)
 
+-- an append's sum and count
+pub lengths-append : (p q : Program) → translatedLengths (p ++ q) ≡ translatedLengths p + translatedLengths q
+unfolding translatedLengths
+lengths-append [] q = omega arith
+lengths-append (r ∷ p) q = omega (arith, lengths-append p q)
+
+pub counts-append : (p q : Program) → translatedCounts (p ++ q) ≡ translatedCounts p + translatedCounts q
+unfolding translatedCounts
+counts-append [] q = omega arith
+counts-append (r ∷ p) q = omega (arith, counts-append p q)
+
+-- a rule becomes one rule or more
+pub counts-least : (p : Program) → length p ≤ translatedCounts p
+unfolding translatedCounts translatedCount
+counts-least [] = omega arith
+counts-least (strict h b c ∷ p) = omega (arith, counts-least p)
+counts-least (defeasible t h b c ∷ p) = omega (arith, counts-least p)
+
 -- the sum is the length of the translation in bytes
 pub length-translation : (p : Program) → programLength (translation p) ≡ translationLength p
 unfolding programLength translation translationLength
@@ -103,6 +121,6 @@ rules-thirteenfold F most (r ∷ p) k =
     omega (arith, rule-thirteenfold F most r (first (keepsRule F r) _ k), rules-thirteenfold F most p (second (keepsRule F r) _ k))
 
 -- a translation is at most thirteen times as long as its source
-pub thirteenfold : (F : Limits) → F .heads ≤ 67 → (p : Program) → T (keepsRules F p) → translationLength p ≤ 13 * programLength p
+pub thirteenfold : (F : Limits) → F .heads ≤ 67 → (p : Program) → T (eachOf (keepsRule F) p) → translationLength p ≤ 13 * programLength p
 unfolding translationLength programLength
-thirteenfold F most p k = omega (arith, rules-thirteenfold F most p (keeps-each F p k))
+thirteenfold F most p k = omega (arith, rules-thirteenfold F most p k)

@@ -1,12 +1,13 @@
 -- A rule's number is its position: each rule has one number, and each number one rule.
--- In order: the rule at a number; numbers are unique; a test of every rule; options and defeated rules by number.
+-- In order: the rule at a number; numbers are unique; a test of every rule; of an append; the numbers of defeasible rules; options and
+-- defeated rules by number.
 -- Assumes nothing.
 use Prim.Native.Nat.{ℕ, _+_, _≤_, _<_}
 use native.Mathlib.Omega.{arith}
 use mathlib.Core.Path.{_≡_, refl, sym, _∙_, ap, subst}
 use mathlib.Core.Bool.{Bool, _&&_}
 use mathlib.Core.Logic.{_⊎_, inl, inr}
-use mathlib.Core.List.{List, [], _∷_, List·Memᴰ, List·Memᴰ·head, List·Memᴰ·tail, Memᴰ·cast}
+use mathlib.Core.List.{List, [], _∷_, _++_, List·Memᴰ, List·Memᴰ·head, List·Memᴰ·tail, Memᴰ·cast}
 use lib.Dec.{T, eqb, eqb→eq, eqb-refl}
 use lib.ListN.{length}
 use Rattle.literal.specs.declared.Tag.{Tag}
@@ -54,6 +55,20 @@ at-mem (there a) = List·Memᴰ·tail (at-mem a)
 pub at-below : {n : ℕ} {r : Rule} {k : ℕ} {p : Program} → At n r k p → n < k + length p
 at-below (here {p} e f) = omega arith
 at-below (there {p} a) = omega (arith, at-below a)
+
+-- in an append it stands in the one or in the other, whose numbers go on
+pub at-append : {n : ℕ} {r : Rule} (k : ℕ) (p q : Program) → At n r k (p ++ q) → At n r k p ⊎ At n r (k + length p) q
+at-append {n} {r} k [] q a = inr (subst (λ (m : ℕ). At n r m q) (omega arith) a)
+at-append k (x ∷ p) q (here e f) = inl (here e f)
+at-append {n} {r} k (x ∷ p) q (there a) = go (at-append (k + 1) p q a)
+  where
+    go : At n r (k + 1) p ⊎ At n r (k + 1 + length p) q → At n r k (x ∷ p) ⊎ At n r (k + length (x ∷ p)) q
+    go (inl b) = inl (there b)
+    go (inr b) = inr (subst (λ (m : ℕ). At n r m q) (omega arith) b)
+
+-- in a program whose first rule has number k, no defeasible rule has a number above m
+abbrev pub Numbered : ℕ → ℕ → Program → Type 0
+Numbered m k p = (n : ℕ) (t : Tag) (h : List SignedAtom) (b c : List Literal) → At n (defeasible t h b c) k p → n ≤ m
 
 -- a model of a quotient, number by number
 pub models-at : {p : Program} (k : ℕ) (s u : LiteralSet) → T (models (quotient p s) u) → {n : ℕ} {r : Rule} → At n r k p → Kept r s u

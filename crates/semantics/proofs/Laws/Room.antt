@@ -1,5 +1,5 @@
 -- A translation keeps the limits of a form with room for it: rules, counts and literals.
--- In order: room; what one rule becomes; the translation.
+-- In order: how many rules and bytes it has at most; room; what one rule becomes; the translation.
 -- Assumes nothing.
 use Prim.Native.Nat.{ℕ, _+_, _*_, _≤_, max}
 use native.Mathlib.Omega.{arith}
@@ -18,26 +18,65 @@ use Rattle.literal.specs.Literal.{takes}
 use Rattle.semantics.specs.Set.{eachOf}
 use Rattle.semantics.specs.Rule.{Rule, strict, defeasible, Program, head, positive, naf}
 use Rattle.semantics.specs.Translation.{ruleDefeated, choice, allDefeated, holdsIfDerived, derivedIfHolds, neverBoth, option, options, translatedRule, translationFrom, translation, translatedLength, translatedLengths, translationLength, translatedCount, translatedCounts}
-use Rattle.semantics.specs.Form.{keepsRule, keepsRules}
+use Rattle.semantics.specs.Form.{keepsRule, keepsRules, mostAppended, TakesDefeats}
 use Rattle.semantics.proofs.Laws.Tests.{both, first, second, all-mem, all-intro, all-append, all-map, along}
 use Rattle.semantics.proofs.Laws.Wider.{takes-wider, all-wider}
 use Rattle.semantics.proofs.Laws.Form.{keeps-count, keeps-each, keeps-rules, Kept, kept, strict-keeps, Covers, covers-derived, covers-mark, covers-number}
+use Rattle.semantics.proofs.Laws.Position.{At, here, there, Numbered}
 use Rattle.semantics.proofs.Laws.Length.{count-translation}
+use Rattle.semantics.proofs.Laws.Expanded.{Expanded, expanded-each, expanded-numbered, expanded-counts, expanded-translated}
 
--- form G has room for what a program within F's limits becomes
+-- how many rules, and how many bytes, a program within F's limits becomes at most, with the rules that sheets append to it
+module _ (F : Limits) where
+  rule-count : (r : Rule) → T (keepsRule F r) → translatedCount r ≤ 3 * F .heads + 2
+  unfolding translatedCount head
+  rule-count (strict h b c) k = omega arith
+  rule-count (defeasible t h b c) k = omega (arith, kept F (defeasible t h b c) k .heads, length-map h Signed)
+
+  rule-length : (r : Rule) → T (keepsRule F r) → translatedLength r ≤ 66 * F .heads + 5 * (F .positives + F .nafs) + 24
+  unfolding translatedLength head positive naf
+  rule-length (strict h b c) k = let w = kept F (strict h b c) k in omega (arith, w .heads, w .positives, w .nafs)
+  rule-length (defeasible t h b c) k = let w = kept F (defeasible t h b c) k in omega (arith, w .heads, w .positives, w .nafs, length-map h Signed)
+
+  rules-count : (p : Program) → T (eachOf (keepsRule F) p) → translatedCounts p ≤ length p * (3 * F .heads + 2)
+  unfolding translatedCounts
+  rules-count [] k = omega arith
+  rules-count (r ∷ p) k = omega (arith, rule-count r (first (keepsRule F r) _ k), rules-count p (second (keepsRule F r) _ k))
+
+  rules-length : (p : Program) → T (eachOf (keepsRule F) p) → translatedLengths p ≤ length p * (66 * F .heads + 5 * (F .positives + F .nafs) + 24)
+  unfolding translatedLengths
+  rules-length [] k = omega arith
+  rules-length (r ∷ p) k = omega (arith, rule-length r (first (keepsRule F r) _ k), rules-length p (second (keepsRule F r) _ k))
+
+  pub translation-count : (p : Program) → Expanded F p → length (translation p) ≤ F .rules * (3 * F .heads + 2) + mostAppended F
+  translation-count p e =
+      let w = e .written in
+      let grown = mul-le-mul-right (3 * F .heads + 2) (keeps-count F w (e .keeps)) in
+      omega (arith, count-translation p, expanded-counts F p e, rules-count w (keeps-each F w (e .keeps)), grown, e .few)
+
+  pub translation-bytes : (p : Program) → Expanded F p
+      → translationLength p ≤ 4 + F .rules * (66 * F .heads + 5 * (F .positives + F .nafs) + 24) + 17 * mostAppended F
+  unfolding translationLength
+  translation-bytes p e =
+      let w = e .written in
+      let grown = mul-le-mul-right (66 * F .heads + 5 * (F .positives + F .nafs) + 24) (keeps-count F w (e .keeps)) in
+      omega (arith, expanded-translated F p e, rules-length w (keeps-each F w (e .keeps)), grown, e .few)
+
+-- form G has room for what a program within F's limits becomes, with the rules that sheets append to it
 pub record Room (F G : Limits) : Type 0 where
   pub covers : Covers F G
   pub heads : max (F .heads) 1 ≤ G .heads
   pub positives : max (F .heads) (max (F .positives) 2) ≤ G .positives
   pub nafs : F .nafs + 1 ≤ G .nafs
-  pub rules : F .rules * (3 * F .heads + 2) ≤ G .rules
-  pub bytes : 4 + F .rules * (66 * F .heads + 5 * (F .positives + F .nafs) + 24) ≤ G .length
+  pub rules : F .rules * (3 * F .heads + 2) + mostAppended F ≤ G .rules
+  pub bytes : 4 + F .rules * (66 * F .heads + 5 * (F .positives + F .nafs) + 24) + 17 * mostAppended F ≤ G .length
+  pub appended : TakesDefeats F
 
 one : (G : Limits) (l : Literal) → T (takes G l) → T (eachOf (takes G) (l ∷ []))
 one G l t = both (takes G l) true t tt
 
 module _ (F G : Limits) (room : Room F G) where
-  -- a rule and its number, within F's limits
+  -- a defeasible rule and its number, within F's limits
   module _ (n : ℕ) (low : 1 ≤ n) (high : n ≤ F .rules) where
     number : T (takes G (ruleDefeated n))
     number = covers-number F G (room .covers) n low high
@@ -103,59 +142,39 @@ module _ (F G : Limits) (room : Room F G) where
           along (sym (all-append (keepsRule G) (option t a) (options t os)))
           (both (eachOf (keepsRule G) (option t a)) _ (option-keeps (f a (List·Memᴰ·head refl))) (options-keep os (λ x m. f x (List·Memᴰ·tail m))))
 
-    rule-keeps : (r : Rule) → T (keepsRule F r) → T (eachOf (keepsRule G) (translatedRule n r))
-    unfolding translatedRule head positive naf
-    rule-keeps (strict h b c) k =
-        let w = kept F (strict h b c) k in
-        let taken = all-wider F G (room .covers .wider) in
-        both (keepsRule G (strict h b c)) true
-        (strict-keeps G h b c (omega (arith, w .heads, room .heads)) (omega (arith, w .positives, room .positives)) (omega (arith, w .nafs, room .nafs))
-        (taken h (w .head-taken)) (taken b (w .positive-taken)) (taken c (w .naf-taken))) tt
-    rule-keeps (defeasible t h b c) k =
-        both (keepsRule G (choice n t h b c)) (keepsRule G (allDefeated n t h) && eachOf (keepsRule G) (options t h)) (choice-keeps t h b c k)
-        (both (keepsRule G (allDefeated n t h)) (eachOf (keepsRule G) (options t h)) (defeated-keeps t h b c k) (options-keep t h b c k h (λ a m. m)))
+  -- the number of a strict rule is used nowhere
+  rule-keeps : (n : ℕ) (r : Rule) → 1 ≤ n → Numbered (F .rules) n (r ∷ []) → T (keepsRule F r) → T (eachOf (keepsRule G) (translatedRule n r))
+  unfolding translatedRule head positive naf
+  rule-keeps n (strict h b c) low high k =
+      let w = kept F (strict h b c) k in
+      let taken = all-wider F G (room .covers .wider) in
+      both (keepsRule G (strict h b c)) true
+      (strict-keeps G h b c (omega (arith, w .heads, room .heads)) (omega (arith, w .positives, room .positives)) (omega (arith, w .nafs, room .nafs))
+      (taken h (w .head-taken)) (taken b (w .positive-taken)) (taken c (w .naf-taken))) tt
+  rule-keeps n (defeasible t h b c) low high k =
+      let most = high n t h b c (here refl refl) in
+      both (keepsRule G (choice n t h b c)) (keepsRule G (allDefeated n t h) && eachOf (keepsRule G) (options t h)) (choice-keeps n low most t h b c k)
+      (both (keepsRule G (allDefeated n t h)) (eachOf (keepsRule G) (options t h)) (defeated-keeps n low most t h b c k)
+      (options-keep n low most t h b c k h (λ a m. m)))
 
-  from-keeps : (n : ℕ) (p : Program) → 1 ≤ n → n + length p ≤ F .rules + 1 → T (eachOf (keepsRule F) p) → T (eachOf (keepsRule G) (translationFrom n p))
+  from-keeps : (n : ℕ) (p : Program) → 1 ≤ n → Numbered (F .rules) n p → T (eachOf (keepsRule F) p) → T (eachOf (keepsRule G) (translationFrom n p))
   unfolding translationFrom
   from-keeps n [] low high k = tt
   from-keeps n (r ∷ p) low high k =
       along (sym (all-append (keepsRule G) (translatedRule n r) (translationFrom (n + 1) p)))
       (both (eachOf (keepsRule G) (translatedRule n r)) (eachOf (keepsRule G) (translationFrom (n + 1) p))
-      (rule-keeps n low (omega arith) r (first (keepsRule F r) _ k))
-      (from-keeps (n + 1) p (omega arith) (omega arith) (second (keepsRule F r) _ k)))
-
-  -- how many rules, and how many bytes, a rule becomes at most
-  rule-count : (r : Rule) → T (keepsRule F r) → translatedCount r ≤ 3 * F .heads + 2
-  unfolding translatedCount head
-  rule-count (strict h b c) k = omega arith
-  rule-count (defeasible t h b c) k = omega (arith, kept F (defeasible t h b c) k .heads, length-map h Signed)
-
-  rule-length : (r : Rule) → T (keepsRule F r) → translatedLength r ≤ 66 * F .heads + 5 * (F .positives + F .nafs) + 24
-  unfolding translatedLength head positive naf
-  rule-length (strict h b c) k = let w = kept F (strict h b c) k in omega (arith, w .heads, w .positives, w .nafs)
-  rule-length (defeasible t h b c) k = let w = kept F (defeasible t h b c) k in omega (arith, w .heads, w .positives, w .nafs, length-map h Signed)
-
-  rules-count : (p : Program) → T (eachOf (keepsRule F) p) → translatedCounts p ≤ length p * (3 * F .heads + 2)
-  unfolding translatedCounts
-  rules-count [] k = omega arith
-  rules-count (r ∷ p) k = omega (arith, rule-count r (first (keepsRule F r) _ k), rules-count p (second (keepsRule F r) _ k))
-
-  rules-length : (p : Program) → T (eachOf (keepsRule F) p) → translatedLengths p ≤ length p * (66 * F .heads + 5 * (F .positives + F .nafs) + 24)
-  unfolding translatedLengths
-  rules-length [] k = omega arith
-  rules-length (r ∷ p) k = omega (arith, rule-length r (first (keepsRule F r) _ k), rules-length p (second (keepsRule F r) _ k))
+      (rule-keeps n r low (λ m t h b c at. high m t h b c (at-first at)) (first (keepsRule F r) _ k))
+      (from-keeps (n + 1) p (omega arith) (λ m t h b c at. high m t h b c (there at)) (second (keepsRule F r) _ k)))
+    where
+      at-first : {m : ℕ} {q : Rule} → At m q n (r ∷ []) → At m q n (r ∷ p)
+      at-first (here e f) = here e f
 
   -- the translation keeps G's limits
-  pub translation-keeps : (p : Program) → T (keepsRules F p) → T (keepsRules G (translation p))
+  pub translation-keeps : (p : Program) → Expanded F p → T (keepsRules G (translation p))
   unfolding translation
-  translation-keeps p k =
-      let many = rules-count p (keeps-each F p k) in
-      let grown = mul-le-mul-right (3 * F .heads + 2) (keeps-count F p k) in
-      keeps-rules G (translation p) (omega (arith, count-translation p, many, grown, room .rules))
-      (from-keeps 1 p (omega arith) (omega (arith, keeps-count F p k)) (keeps-each F p k))
+  translation-keeps p e =
+      keeps-rules G (translation p) (omega (arith, translation-count F p e, room .rules))
+      (from-keeps 1 p (omega arith) (expanded-numbered F p e) (expanded-each F p e (room .appended)))
 
-  pub translation-short : (p : Program) → T (keepsRules F p) → translationLength p ≤ G .length
-  unfolding translationLength
-  translation-short p k =
-      let grown = mul-le-mul-right (66 * F .heads + 5 * (F .positives + F .nafs) + 24) (keeps-count F p k) in
-      omega (arith, rules-length p (keeps-each F p k), grown, room .bytes)
+  pub translation-short : (p : Program) → Expanded F p → translationLength p ≤ G .length
+  translation-short p e = omega (arith, translation-bytes F p e, room .bytes)

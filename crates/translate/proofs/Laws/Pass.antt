@@ -1,5 +1,5 @@
 -- Laws of the two passes: what is measured and written of a program is the translation of the rules that are gone.
--- In order: the translation's bytes, one rule more; few bytes and rules for a record; measuring; writing.
+-- In order: the translation's bytes, one rule more; what a record adds, and that it fits; writing.
 -- Assumes nothing.
 use Prim.Native.Nat.{ℕ, _+_, _*_, _≤_, _<_}
 use native.Mathlib.Omega.{arith}
@@ -10,15 +10,14 @@ use lib.ListN.{length, length-append}
 use Rattle.buffer.specs.Write.{write}
 use Rattle.buffer.proofs.Laws.Write.{write-nil}
 use Rattle.buffer.proofs.Laws.Next.{write-behind}
-use Rattle.semantics.specs.Rule.{Rule, strict, defeasible, naf, Program}
-use Rattle.semantics.specs.Translation.{translatedRule, translationFrom, translation, recordLength, translatedLength, translatedCount, translationLength}
-use Rattle.semantics.proofs.Laws.Length.{programLength, translation-append, rule-count, length-translation}
+use Rattle.semantics.specs.Rule.{Rule, naf, Program}
+use Rattle.semantics.specs.Translation.{translatedRule, translationFrom, translation, translatedCount, translatedCounts, translationLength}
+use Rattle.semantics.proofs.Laws.Length.{programLength, translation-append, rule-count, counts-append, counts-least, length-translation, count-translation}
 use Rattle.record.specs.Header.{nafCount}
-use Rattle.record.specs.Layout.{encodedRule, encodedRules, encodedEnd, encodedProgram}
-use Rattle.record.proofs.Laws.Layout.{encoded-rules-append, length-encoded-rule, length-encoded-rules}
-use Rattle.record_walk.specs.Code.{recordSize}
+use Rattle.record.specs.Layout.{encodedRules, encodedEnd, encodedProgram}
+use Rattle.record.proofs.Laws.Layout.{encoded-rules-append, length-encoded-rules}
 use Rattle.record_walk.proofs.Laws.Fields.{naf-count}
-use Rattle.record_walk.proofs.Laws.Walk.{Walk, More, walk-open, next-keeps}
+use Rattle.record_walk.proofs.Laws.Walk.{Walk, More, next-keeps}
 use Rattle.translate_rule.specs.Code.{lengthAt, countAt}
 use Rattle.translate_rule.proofs.Laws.Sizes.{told, length-translated}
 use Rattle.translate.specs.Code.{Translatable}
@@ -56,49 +55,11 @@ count-next gone r =
     ap length (translation-append 1 gone (r ∷ [])) ∙ length-append (translationFrom 1 gone) (translatedRule n r ++ [])
     ∙ ap (λ (k : ℕ). length (translationFrom 1 gone) + k) (ap length (append-nil (translatedRule n r)) ∙ rule-count n r)
 
--- a rule has seven bytes or more; it becomes at most fourteen times as many, and three rules at most for five of them
-record Grows (r : Rule) : Type 0 where
-  large : 7 ≤ recordLength r
-  bytes : translatedLength r ≤ 14 * recordLength r
-  rules : 5 * translatedCount r ≤ 3 * recordLength r
-
-grows : (r : Rule) → Grows r
-unfolding translatedLength translatedCount recordLength
-grows (strict h b c) = record { large = omega arith; bytes = omega arith; rules = omega arith }
-grows (defeasible t h b c) = record { large = omega arith; bytes = omega arith; rules = omega arith }
-
--- so does a program
-pub record Few (p q : Program) : Type 0 where
-  pub numbers : 7 * length p ≤ length (encodedRules p)
-  pub bytes : length (encodedRules q) ≤ 14 * length (encodedRules p)
-  pub rules : 5 * length q ≤ 3 * length (encodedRules p)
-
-few-from : (n : ℕ) (p : Program) → Few p (translationFrom n p)
-unfolding translationFrom encodedRules
-few-from n [] = record { numbers = omega arith; bytes = omega arith; rules = omega arith }
-few-from n (r ∷ p) =
-    let g = grows r in
-    let f = few-from (n + 1) p in
-    let long = length-append (encodedRule r) (encodedRules p) ∙ ap (λ (k : ℕ). k + length (encodedRules p)) (length-encoded-rule r) in
-    let made = encoded-rules-append (translatedRule n r) (translationFrom (n + 1) p) in
-    record {
-      numbers = omega (arith, g .large, f .numbers, long);
-      bytes =
-          omega (
-            arith,
-            g .bytes,
-            f .bytes,
-            long,
-            length-translated n r,
-            ap length made,
-            length-append (encodedRules (translatedRule n r)) (encodedRules (translationFrom (n + 1) p)),
-          );
-      rules = omega (arith, g .rules, f .rules, long, rule-count n r, length-append (translatedRule n r) (translationFrom (n + 1) p));
-    }
-
-pub few : (p : Program) → Few p (translation p)
-unfolding translation
-few p = few-from 1 p
+-- the rules before one, that one, and those behind it
+count-split : (gone : Program) (r : Rule) (behind : Program) → length (translation gone) + translatedCount r ≤ length (translation (gone ++ r ∷ behind))
+unfolding translatedCounts
+count-split gone r behind =
+    omega (arith, count-translation gone, count-translation (gone ++ r ∷ behind), counts-append gone (r ∷ behind))
 
 -- the translation's length, by the bytes of its rules
 pub length-bytes : (p : Program) → translationLength p ≡ 4 + length (bytesOf p)
@@ -141,14 +102,15 @@ module _ {s : List ℕ} {p gone : Program} {at : ℕ} {t : List ℕ} (m : More s
       )
 
   -- of a translatable program, all of them fit their types
-  pub adds-few : s ≡ encodedProgram p → Translatable p → Adds gone t
-  adds-few e ok =
-      let f = few (gone ++ m .the-rule ∷ []) in
-      let passed = m .next (recordSize t) refl .passed in
+  pub adds-few : Translatable p → Adds gone t
+  adds-few ok =
+      let r = m .the-rule in
+      let all = ap (λ (q : Program). length (translation q)) (m .split) in
+      let rules : length (translation gone) + countAt t < 65535 = omega (arith, count-split gone r (m .behind), all, told t r (m .starts) .count, ok .rules) in
       record {
-        bytes = omega (arith, adds-bytes, f .bytes, passed, m .fits, ap length e, ok .short);
-        rules = omega (arith, adds-rules, f .rules, passed, m .fits, ap length e, ok .short);
-        numbers = omega (arith, f .numbers, length-append gone (m .the-rule ∷ []), passed, m .fits, ap length e, ok .short);
+        bytes = omega (arith, adds-within, ok .bytes);
+        rules = omega arith;
+        numbers = omega (arith, adds-rules, counts-least (gone ++ r ∷ []), count-translation (gone ++ r ∷ []), length-append gone (r ∷ []), ok .rules);
       }
 
   -- and one naf literal more fits its byte
@@ -158,8 +120,16 @@ module _ {s : List ℕ} {p gone : Program} {at : ℕ} {t : List ℕ} (m : More s
       omega (arith, few, naf-count t (m .the-rule) (m .starts))
 
 -- at any place the rules of a translatable program's translation can be counted
-pub made-few : {s : List ℕ} {p gone : Program} {at : ℕ} → Walk s p gone at → s ≡ encodedProgram p → Translatable p → length (translation gone) < 65536
-made-few {gone = gone} w e ok = omega (arith, few gone .rules, w .passed, walk-open w, ap length e, ok .short)
+pub made-few : {s : List ℕ} {p gone : Program} {at : ℕ} → Walk s p gone at → Translatable p → length (translation gone) < 65536
+made-few {p = p} {gone = gone} w ok =
+    omega (
+      arith,
+      count-translation gone,
+      count-translation p,
+      ap translatedCounts (w .split),
+      counts-append gone (w .left),
+      ok .rules,
+    )
 
 -- what writing has made of the rules that are gone
 pub record Made (out₀ out : List ℕ) (number made to : ℕ) (gone : Program) : Type 0 where

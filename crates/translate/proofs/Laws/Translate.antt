@@ -1,103 +1,133 @@
 -- Laws of translating: the outcome, from what reading gives and the room that there is.
--- In order: a program that was read, as the passes ask for it; the answers that meet a refusal, too short a buffer, a translation; the
--- form of sources.
+-- In order: a translatable program; the answers that meet too short a buffer, and a translation; a refusal; the program that is meant; a
+-- program that was read; the form of sources.
 -- Assumes nothing.
 use Prim.Native.Nat.{ℕ, _≤_, _<_}
 use native.Mathlib.Omega.{arith}
-use mathlib.Core.Path.{_≡_, sym, _∙_, ap, subst}
+use mathlib.Core.Path.{_≡_, refl, sym, _∙_, ap, subst}
+use mathlib.Core.Bool.{false}
 use mathlib.Core.List.{List}
-use lib.Dec.{T, leb, le→leb}
+use lib.Dec.{leb, le→leb}
 use lib.ListN.{length}
 use Rattle.buffer.specs.Bytes.{Bytes}
 use Rattle.buffer.specs.Write.{write}
 use Rattle.literal.specs.declared.Limits.{Limits}
 use Rattle.literal.specs.Limits.{source}
 use Rattle.semantics.specs.Rule.{naf, Program}
+use Rattle.semantics.specs.Item.{Item, expanded}
 use Rattle.semantics.specs.Form.{keepsRule}
 use Rattle.semantics.specs.Translation.{translation, translationLength}
 use Rattle.semantics.proofs.Laws.Tests.{all-intro, all-mem}
 use Rattle.semantics.proofs.Laws.Form.{kept}
 use Rattle.semantics.proofs.Laws.Length.{length-translation}
-use Rattle.record.specs.declared.Reading.{Reading}
+use Rattle.semantics.proofs.Laws.Expanded.{Expanded, expanded-each}
+use Rattle.semantics.proofs.Laws.Room.{translation-count, translation-bytes}
+use Rattle.record.specs.declared.Held.{Held}
+use Rattle.record.specs.declared.Holding.{Holding}
 use Rattle.record.specs.declared.Reason.the-variants.{OutputShort}
 use Rattle.record.specs.declared.Refusal.{Refusal}
 use Rattle.record.specs.declared.Written.{Written}
 use Rattle.record.specs.declared.Written.the-variants.{Length, Refused}
 use Rattle.record.specs.Refusal.{refusal}
-use Rattle.record.specs.Result.{Result, accepted, andThen}
-use Rattle.record.specs.Layout.{encodedProgram, keeps}
-use Rattle.record.specs.Reading.{parsed, reading}
+use Rattle.record.specs.Result.{Result, accepted, andThen, delivered}
+use Rattle.record.specs.Layout.{encodedProgram}
+use Rattle.record.specs.Reading.{items, parsed, holdingOf}
+use Rattle.record.specs.Code.{sheeted}
 use Rattle.record.specs.Meets.{Meets}
 use Rattle.record.proofs.Laws.Layout.{length-encoded-program}
-use Rattle.record.proofs.Laws.Reading.{read-count, read-refused}
-use Rattle.record.proofs.Laws.Keeps.{kept-program}
+use Rattle.record.proofs.Laws.Reading.{held-items, held-refused, items-parsed}
+use Rattle.record.proofs.Laws.Meant.{parsed-refused, items-expanded, held-unsheeted}
 use Rattle.record.proofs.Laws.Delivered.{meets-refused, meets-short, meets-written}
-use Rattle.record_walk.specs.Code.{Holds}
-use Rattle.record_walk.proofs.Laws.Walk.{holds-read}
+use Rattle.record_walk.specs.Code.{Holds, HoldsFile}
+use Rattle.expand.specs.Code.{normalBytes, Normalizable, Meaning}
+use Rattle.expand.proofs.Laws.File.{file-means}
 use Rattle.translate.specs.Translate.{translatedBytes, translated}
-use Rattle.translate.specs.Code.{Translatable, Fitting, Writable}
+use Rattle.translate.specs.Code.{Translatable, Fitting, Writable, translationOf}
 
 -- a translation is as long as was measured
 pub length-translated : (p : Program) → length (encodedProgram (translation p)) ≡ translationLength p
 length-translated p = length-encoded-program (translation p) ∙ length-translation p
 
--- a program within the limits is translatable
-translatable : (F : Limits) → Writable F → (p : Program) → T (keeps F p) → Translatable p
-translatable F ok p k =
-    let within = kept-program F p k in
+-- a program within the limits is translatable, with the rules that sheets append to it
+pub translatable : (F : Limits) → Writable F → (p : Program) → Expanded F p → Translatable p
+translatable F ok p e =
     record {
-      short = omega (arith, within .short, ok .short);
+      rules = omega (arith, translation-count F p e, ok .rules);
+      bytes = omega (arith, translation-bytes F p e, ok .bytes);
       nafs = all-intro (λ r. leb (length (naf r)) 254) p
-          (λ r m. le→leb (length (naf r)) 254 (omega (arith, kept F r (all-mem (keepsRule F) (within .each) m) .nafs, ok .room)));
+          (λ r m. le→leb (length (naf r)) 254 (omega (arith, kept F r (all-mem (keepsRule F) (expanded-each F p e (ok .appended)) m) .nafs, ok .nafs)));
     }
+
+-- what is written of a program that is held
+module _ (s out : List ℕ) (w : Holds Translatable s) (n : ℕ) (measured : (v : Holds Translatable s) → n ≡ translationLength (v .program)) where
+  bytes : List ℕ
+  bytes = encodedProgram (translation (w .program))
+
+  -- 9 where the buffer is shorter than the translation
+  pub short-met : length out < n → Meets (translationOf (w .program) out) (Refused (refusal OutputShort 0)) out
+  unfolding bytes
+  short-met h = meets-short (accepted bytes) out bytes refl (omega (arith, measured w, length-translated (w .program)))
+
+  module _ (h : n ≤ length out) where
+    -- what writing asks
+    pub fitting : Holds (Fitting (length out)) s
+    fitting = record { program = w .program; bytes = w .bytes; asked = record { translatable = w .asked; fits = omega (arith, measured w) } }
+
+    -- the translation
+    pub written-met : (e : List ℕ) → ((v : Holds (Fitting (length out)) s) → e ≡ write out 0 (encodedProgram (translation (v .program))))
+        → Meets (translationOf (w .program) out) (Length n) e
+    unfolding bytes fitting
+    written-met e done =
+        let long = measured w ∙ sym (length-translated (w .program)) in
+        meets-written (accepted bytes) out bytes refl (omega (arith, long)) n e long (done fitting)
 
 module _ (F : Limits) (s out : List ℕ) where
   -- what reading refuses, translating does
-  pub refused-met : (x : Refusal) → reading F s ≡ Reading.Refused x → Meets (translated F s out) (Refused x) out
-  unfolding reading translated translatedBytes andThen
+  pub refused-met : (x : Refusal) → holdingOf (items F s) ≡ Holding.Refused x → Meets (translated F s out) (Refused x) out
+  unfolding translated translatedBytes andThen
   refused-met x e =
       meets-refused (translatedBytes F s) out x
-      (ap (λ (q : Result Program). andThen q (λ p. accepted (encodedProgram (translation p)))) (read-refused (parsed F s) x e))
+      (ap (λ (q : Result Program). andThen q (λ p. accepted (encodedProgram (translation p)))) (parsed-refused F s x (held-refused (items F s) x e)))
 
-  module _ (ok : Writable F) (bytes : Bytes s) (count : ℕ) (e : reading F s ≡ Reading.Count count) where
-    told : (p : Program) × (parsed F s ≡ accepted p) × (length p ≡ count)
-    unfolding reading
-    told = read-count (parsed F s) count e
+  -- the translation of the program that is meant is the outcome, wherever it was made
+  translation-met : (p : Program) → parsed F s ≡ accepted p → {r : Written} {end : List ℕ} → Meets (translationOf p out) r end
+      → Meets (translated F s out) r end
+  unfolding translated translatedBytes andThen
+  translation-met p e {r} {end} m =
+      subst (λ (q : Result Program). Meets (delivered (andThen q (λ p. accepted (encodedProgram (translation p)))) out) r end) (sym e) m
 
-    -- the program that was read, as measuring asks for it
-    pub given : Holds Translatable s
-    given = holds-read Translatable F s (told .0) bytes (told .1) (translatable F ok (told .0))
+  -- a file that was read
+  module _ (ok : Writable F) (bytes : Bytes s) (h : Held) (e : holdingOf (items F s) ≡ Holding.All h) where
+    is : List Item
+    is = held-items (items F s) h e .0
 
-    -- its translation
-    made : translatedBytes F s ≡ accepted (encodedProgram (translation (given .program)))
-    unfolding translatedBytes andThen given
-    made = ap (λ (q : Result Program). andThen q (λ p. accepted (encodedProgram (translation p)))) (told .1)
+    read : items F s ≡ accepted is
+    unfolding is
+    read = held-items (items F s) h e .1
 
-    module _ (n : ℕ) (measured : (w : Holds Translatable s) → n ≡ translationLength (w .program)) where
-      -- 9 where the buffer is shorter than the translation
-      pub short-met : length out < n → Meets (translated F s out) (Refused (refusal OutputShort 0)) out
-      unfolding translated
-      short-met h =
-          meets-short (translatedBytes F s) out (encodedProgram (translation (given .program))) made
-          (omega (arith, measured given, length-translated (given .program)))
+    can : Translatable (expanded is)
+    can = translatable F ok (expanded is) (items-expanded F s is bytes read)
 
-      module _ (h : n ≤ length out) where
-        -- what writing asks
-        pub fitting : Holds (Fitting (length out)) s
-        fitting =
-            record {
-              program = given .program;
-              bytes = given .bytes;
-              asked = record { translatable = given .asked; fits = omega (arith, measured given) };
-            }
+    -- without sheets its records are the slice
+    pub given : sheeted h ≡ false → Holds Translatable s
+    unfolding is
+    given none =
+        record { program = expanded is; bytes = held-unsheeted F s is bytes read h (held-items (items F s) h e .2) none; asked = can }
 
-        -- the translation
-        pub written-met : (e : List ℕ) → ((w : Holds (Fitting (length out)) s) → e ≡ write out 0 (encodedProgram (translation (w .program))))
-            → Meets (translated F s out) (Length n) e
-        unfolding translated fitting
-        written-met e done =
-            let long = measured given ∙ sym (length-translated (given .program)) in
-            meets-written (translatedBytes F s) out (encodedProgram (translation (given .program))) made (omega (arith, long)) n e long (done fitting)
+    pub read-met : (none : sheeted h ≡ false) → {r : Written} {end : List ℕ} → ((w : Holds Translatable s) → Meets (translationOf (w .program) out) r end)
+        → Meets (translated F s out) r end
+    unfolding given
+    read-met none m = translation-met (expanded is) (items-parsed F s is read) (m (given none))
+
+    -- with sheets it has a normal form
+    module _ (normal : Normalizable F) where
+      pub given-file : HoldsFile (Meaning Translatable normalBytes) s
+      given-file = file-means F normal s is bytes read can
+
+      pub file-met : {r : Written} {end : List ℕ}
+          → ((w : HoldsFile (Meaning Translatable normalBytes) s) → Meets (translationOf (expanded (w .items)) out) r end) → Meets (translated F s out) r end
+      unfolding given-file file-means
+      file-met m = translation-met (expanded is) (items-parsed F s is read) (m given-file)
 
 -- the same limits have the same outcome
 pub meets-same : (F G : Limits) (s out : List ℕ) {r : Written} {e : List ℕ} → F ≡ G → Meets (translated F s out) r e → Meets (translated G s out) r e
@@ -106,4 +136,5 @@ meets-same F G s out {r} {e} same m = subst (λ (H : Limits). Meets (translated 
 -- a translation is made in the form of sources
 pub writable-source : Writable source
 unfolding source
-writable-source = record { short = omega arith; room = omega arith }
+writable-source =
+    record { rules = omega arith; bytes = omega arith; nafs = omega arith; appended = record { heads = omega arith; positives = omega arith } }

@@ -1,11 +1,11 @@
-//! Bytes back to rules and sets, as document 01 lays out records.
+//! Bytes back to rules, preference sheets and sets, as documents 01 and 02 lay out records.
 //!
 //! What is decoded has been read or written by the library, so that its layout is known to be right. The fields are
 //! taken from the front, one behind the other: where a record ends shows when its last literal is taken, and nothing
 //! here says how long records are.
 
-use super::encoder::{DEFEASIBLE, END, SET};
-use super::{Literal, Rule, SignedAtom};
+use super::encoder::{DEFEASIBLE, END, OPPOSITION, OVERRIDE, SET};
+use super::{Item, Literal, Rule, SignedAtom};
 
 /// Bytes from which fields are taken.
 struct Fields<'b> {
@@ -49,28 +49,36 @@ impl Fields<'_> {
         (0..count).map(|_| self.literal()).collect()
     }
 
-    /// The rule of the next record; none where that is the end record.
-    fn rule(&mut self) -> Option<Rule> {
-        let mark = self.mark();
-        if mark == END {
-            return None;
+    /// The item of the next record; none where that is the end record.
+    fn item(&mut self) -> Option<Item> {
+        match self.mark() {
+            END => None,
+            OVERRIDE => Some(Item::Override(self.number(), self.number())),
+            OPPOSITION => Some(Item::Opposition(self.literal(), self.literal())),
+            mark => Some(Item::Rule(self.rule(mark))),
         }
+    }
+
+    /// The rule behind its mark.
+    fn rule(&mut self, mark: [u8; 2]) -> Rule {
         let tag = self.number();
         let counts = [self.byte(), self.byte(), self.byte()];
         let [heads, positives, nafs] = counts.map(|count| self.literals(count.into()));
-        Some(Rule { tag: if mark == DEFEASIBLE { Some(tag) } else { None }, heads, positives, nafs })
+        Rule { tag: if mark == DEFEASIBLE { Some(tag) } else { None }, heads, positives, nafs }
     }
 }
 
-/// The rules of a program that the library reads.
-pub fn decode_program(bytes: &[u8]) -> Vec<Rule> {
+/// The items of a program that the library reads.
+pub fn decode_program(bytes: &[u8]) -> Vec<Item> {
     let mut fields = Fields { rest: bytes };
-    std::iter::from_fn(|| fields.rule()).collect()
+    std::iter::from_fn(|| fields.item()).collect()
 }
 
 /// The rule whose record the library shows.
 pub fn decode_rule(record: &[u8]) -> Rule {
-    Fields { rest: record }.rule().expect("what is shown is a rule's record")
+    let mut fields = Fields { rest: record };
+    let mark = fields.mark();
+    fields.rule(mark)
 }
 
 /// Whether the bytes begin as a set's record does.

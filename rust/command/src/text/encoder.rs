@@ -1,30 +1,50 @@
-//! Rules and sets to bytes, as document 01 lays out records.
+//! Rules, preference sheets and sets to bytes, as documents 01 and 02 lay out records.
 
-use super::{Literal, Rule, SignedAtom};
+use super::{Item, Literal, Rule, SignedAtom};
 use std::ops::Range;
 
 pub const STRICT: [u8; 2] = *b"S:";
 pub const DEFEASIBLE: [u8; 2] = *b"D:";
+pub const OVERRIDE: [u8; 2] = *b"O:";
+pub const OPPOSITION: [u8; 2] = *b"X:";
 pub const END: [u8; 2] = *b"E:";
 pub const SET: [u8; 2] = *b"A:";
 
-/// A program's bytes, and where each rule's record lies in them.
+/// A program's bytes, and where each item's record lies in them.
 pub struct Encoded {
     pub bytes: Vec<u8>,
     pub records: Vec<Range<usize>>,
 }
 
-/// The rules' records and the end record. A part has at most 255 literals, a program at most 65,535 rules.
-pub fn encode_program(rules: &[Rule]) -> Encoded {
+/// The items' records and the end record, which counts the rules. A part has at most 255 literals, a program at most
+/// 65,535 rules.
+pub fn encode_program(items: &[Item]) -> Encoded {
     let mut encoded = Encoded { bytes: Vec::new(), records: Vec::new() };
-    for rule in rules {
+    for item in items {
         let start = encoded.bytes.len();
-        encode_rule(rule, &mut encoded.bytes);
+        encode_item(item, &mut encoded.bytes);
         encoded.records.push(start..encoded.bytes.len());
     }
+    let rules = items.iter().filter(|item| item.is_rule()).count();
     encoded.bytes.extend(END);
-    encoded.bytes.extend((rules.len() as u16).to_be_bytes());
+    encoded.bytes.extend((rules as u16).to_be_bytes());
     encoded
+}
+
+fn encode_item(item: &Item, bytes: &mut Vec<u8>) {
+    match item {
+        Item::Rule(rule) => encode_rule(rule, bytes),
+        Item::Override(upper, lower) => {
+            bytes.extend(OVERRIDE);
+            bytes.extend(upper.to_be_bytes());
+            bytes.extend(lower.to_be_bytes());
+        }
+        Item::Opposition(first, second) => {
+            bytes.extend(OPPOSITION);
+            bytes.extend(literal_bytes(*first));
+            bytes.extend(literal_bytes(*second));
+        }
+    }
 }
 
 fn encode_rule(rule: &Rule, bytes: &mut Vec<u8>) {

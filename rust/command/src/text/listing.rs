@@ -1,9 +1,25 @@
-//! Rules and sets as text, with the names that their program declares: parsed again, a listing gives the same bytes.
+//! Rules, preference sheets and sets as text, with the names that their program declares: parsed again, a listing gives
+//! the same bytes.
 
-use super::{Literal, Names, Rule, SignedAtom};
+use super::{Item, Literal, Names, Rule, SignedAtom};
 
-/// A program: its names, then a rule a line, its number behind it.
-pub fn list_program(rules: &[Rule], names: &Names) -> String {
+/// A program: its names, then an item a line, behind a rule its number.
+pub fn list_program(items: &[Item], names: &Names) -> String {
+    let mut text = list_names(names);
+    let mut rules = 0;
+    for item in items {
+        text += &list_item(item, names);
+        if item.is_rule() {
+            rules += 1;
+            text += &format!("  % rule {rules}");
+        }
+        text.push('\n');
+    }
+    text
+}
+
+/// The declarations of names, and an empty line behind them if there are any.
+pub fn list_names(names: &Names) -> String {
     let mut text = String::new();
     for (kind, table) in [("atom", &names.atoms), ("tag", &names.tags)] {
         for (number, name) in table.iter() {
@@ -13,10 +29,20 @@ pub fn list_program(rules: &[Rule], names: &Names) -> String {
     if !text.is_empty() {
         text.push('\n');
     }
-    for (index, rule) in rules.iter().enumerate() {
-        text += &format!("{}  % rule {}\n", list_rule(rule, names), index + 1);
-    }
     text
+}
+
+/// A rule, `tag 1 overrides tag 2.` or `1 and 4 oppose.`
+pub fn list_item(item: &Item, names: &Names) -> String {
+    match item {
+        Item::Rule(rule) => list_rule(rule, names),
+        Item::Override(upper, lower) => {
+            format!("tag {} overrides tag {}.", names.tags.show(*upper), names.tags.show(*lower))
+        }
+        Item::Opposition(first, second) => {
+            format!("{} and {} oppose.", list_literal(*first, names), list_literal(*second, names))
+        }
+    }
 }
 
 /// A rule: its positive literals before those under `not`.

@@ -14,7 +14,7 @@ mod tests;
 
 pub use decoder::{decode_literal, decode_program, decode_rule, decode_set, is_set_record};
 pub use encoder::{encode_program, encode_set, Encoded};
-pub use listing::{list_literal, list_program, list_rule, list_set};
+pub use listing::{list_item, list_literal, list_names, list_program, list_rule, list_set};
 pub use names::Names;
 pub use parser::{holds_set, parse_program, parse_set, Parsed};
 
@@ -44,6 +44,29 @@ pub struct Rule {
     pub heads: Vec<Literal>,
     pub positives: Vec<Literal>,
     pub nafs: Vec<Literal>,
+}
+
+/// What stands in a program before its end: a rule, or a record of a preference sheet.
+#[derive(Clone, Debug, PartialEq, Eq)]
+pub enum Item {
+    Rule(Rule),
+    /// The first tag overrides the second.
+    Override(u16, u16),
+    /// The two options oppose each other.
+    Opposition(Literal, Literal),
+}
+
+impl Item {
+    pub fn into_rule(self) -> Option<Rule> {
+        match self {
+            Item::Rule(rule) => Some(rule),
+            Item::Override(..) | Item::Opposition(..) => None,
+        }
+    }
+
+    pub fn is_rule(&self) -> bool {
+        matches!(self, Item::Rule(_))
+    }
 }
 
 /// Where something stands in a text, from 1.

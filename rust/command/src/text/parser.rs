@@ -1,20 +1,25 @@
-//! Text to rules and sets: syntax, names, and the counts that a record's bytes hold. Limits are the library's.
+//! Text to rules, preference sheets and sets: syntax, names, and the counts that a record's bytes hold. Limits are the
+//! library's.
 //!
 //! ```text
-//! program     = { declaration | rule }
+//! program     = { declaration | rule | override | opposition }
 //! declaration = "atom" NUMBER "=" NAME "." | "tag" NUMBER "=" NAME "."
 //! rule        = [ "tag" tag ":" ] head [ "if" body ] "."
 //! head        = "never" | literal { "or" literal }
 //! body        = [ "not" ] literal { "and" [ "not" ] literal }
+//! override    = "tag" tag "overrides" "tag" tag "."
+//! opposition  = literal "and" literal "oppose" "."
 //! literal     = signed | ( "defeated" | "derived" ) "(" tag "," signed ")" | "rule-defeated" "(" NUMBER ")"
 //! signed      = [ "-" ] atom
 //! atom, tag   = NUMBER | NAME
 //! set         = "{" [ literal { "," literal } ] "}"
 //! ```
+//!
+//! `overrides` and `oppose` stand where no name can: atoms and tags may be called so all the same.
 
 use super::lexer::{tokens, Placed, Token};
 use super::names::Table;
-use super::{error, Literal, Names, Place, Rule, SignedAtom, TextError};
+use super::{error, Item, Literal, Names, Place, Rule, SignedAtom, TextError};
 
 /// As many literals as a count's byte holds.
 const PART: usize = u8::MAX as usize;
@@ -24,8 +29,8 @@ const RECORDS: usize = u16::MAX as usize;
 /// A program as its text gives it.
 #[derive(Clone, Debug, Default, PartialEq, Eq)]
 pub struct Parsed {
-    pub rules: Vec<Rule>,
-    /// The line where each rule begins.
+    pub items: Vec<Item>,
+    /// The line where each item begins.
     pub lines: Vec<usize>,
     pub names: Names,
 }
@@ -33,13 +38,15 @@ pub struct Parsed {
 pub fn parse_program(text: &str) -> Result<Parsed, TextError> {
     let mut parser = Parser { tokens: tokens(text)?, next: 0, names: Names::default() };
     let mut parsed = Parsed::default();
+    let mut rules = 0;
     while *parser.token() != Token::End {
         let place = parser.place();
-        if let Some(rule) = parser.statement()? {
-            if parsed.rules.len() == RECORDS {
+        if let Some(item) = parser.statement()? {
+            rules += usize::from(item.is_rule());
+            if rules > RECORDS {
                 return error(place, format!("more than {RECORDS} rules"));
             }
-            parsed.rules.push(rule);
+            parsed.items.push(item);
             parsed.lines.push(place.line);
         }
     }
@@ -115,15 +122,15 @@ impl<'t> Parser<'t> {
         error(self.place(), format!("{wanted} expected, and not {}", self.token()))
     }
 
-    /// A rule, or a declaration, which gives none.
-    fn statement(&mut self) -> Result<Option<Rule>, TextError> {
+    /// An item, or a declaration, which gives none.
+    fn statement(&mut self) -> Result<Option<Item>, TextError> {
         if self.takes_word("atom") {
             let number = self.number("an atom's number")?;
             self.declaration(number, |names| &mut names.atoms)?;
             return Ok(None);
         }
         if !self.takes_word("tag") {
-            return self.rule(None).map(Some);
+            return self.strict_or_opposition().map(Some);
         }
         if let (Token::Number(number), Token::Sign('=')) = (self.token().clone(), self.token_behind()) {
             self.advance();
@@ -131,10 +138,47 @@ impl<'t> Parser<'t> {
             return Ok(None);
         }
         let tag = self.tag()?;
-        if !self.takes(&Token::Sign(':')) {
-            return self.unexpected("`:` (or, behind a tag's number, `=`)");
+        if self.takes(&Token::Name("overrides")) {
+            return self.lower_tag(tag).map(Some);
         }
-        self.rule(Some(tag)).map(Some)
+        if !self.takes(&Token::Sign(':')) {
+            return self.unexpected("`:` or `overrides` (or, behind a tag's number, `=`)");
+        }
+        let rule = Rule { tag: Some(tag), ..Rule::default() };
+        self.rule(rule).map(Some)
+    }
+
+    /// `tag LOWER .`, behind `tag UPPER overrides`
+    fn lower_tag(&mut self, upper: u16) -> Result<Item, TextError> {
+        if !self.takes_word("tag") {
+            return self.unexpected("`tag`");
+        }
+        let lower = self.tag()?;
+        self.expect('.')?;
+        Ok(Item::Override(upper, lower))
+    }
+
+    /// A strict rule, or two options that oppose: behind the first literal stands `and`.
+    fn strict_or_opposition(&mut self) -> Result<Item, TextError> {
+        let start = self.next;
+        if *self.token() != Token::Word("never") {
+            let first = self.literal()?;
+            if self.takes_word("and") {
+                return self.second_option(first);
+            }
+            self.next = start;
+        }
+        self.rule(Rule::default())
+    }
+
+    /// `OPTION oppose .`, behind `OPTION and`
+    fn second_option(&mut self, first: Literal) -> Result<Item, TextError> {
+        let second = self.literal()?;
+        if !self.takes(&Token::Name("oppose")) {
+            return self.unexpected("`oppose`");
+        }
+        self.expect('.')?;
+        Ok(Item::Opposition(first, second))
     }
 
     /// The token behind the next one.
@@ -156,8 +200,8 @@ impl<'t> Parser<'t> {
         self.expect('.')
     }
 
-    fn rule(&mut self, tag: Option<u16>) -> Result<Rule, TextError> {
-        let mut rule = Rule { tag, ..Rule::default() };
+    /// The rest of a rule of which no literal is there yet.
+    fn rule(&mut self, mut rule: Rule) -> Result<Item, TextError> {
         if !self.takes_word("never") {
             self.literal_into(&mut rule.heads)?;
             while self.takes_word("or") {
@@ -176,7 +220,7 @@ impl<'t> Parser<'t> {
         if !self.takes(&Token::Sign('.')) {
             return self.unexpected(if rule.heads.is_empty() { "`if` or `.`" } else { "`or`, `if` or `.`" });
         }
-        Ok(rule)
+        Ok(Item::Rule(rule))
     }
 
     fn body_literal(&mut self, rule: &mut Rule) -> Result<(), TextError> {

@@ -1,14 +1,19 @@
 //! The text form beside its bytes: fixed cases, errors with their places, and round trips of random programs.
 
 use super::*;
-use crate::limits::{PLAIN, SOURCE};
+use crate::limits::{APPENDED_RULE, PLAIN, SOURCE};
 
 fn parsed(text: &str) -> Parsed {
     parse_program(text).unwrap_or_else(|error| panic!("{error}: {text}"))
 }
 
 fn bytes(text: &str) -> Vec<u8> {
-    encode_program(&parsed(text).rules).bytes
+    encode_program(&parsed(text).items).bytes
+}
+
+/// The first rule of a text.
+fn first_rule(text: &str) -> Rule {
+    parsed(text).items.into_iter().find_map(Item::into_rule).unwrap()
 }
 
 fn set_bytes(text: &str) -> Vec<u8> {
@@ -25,6 +30,40 @@ fn rules_become_records() {
 }
 
 #[test]
+fn sheets_become_records() {
+    assert_eq!(bytes("tag 1 overrides tag 258."), b"O:\0\x01\x01\x02E:\0\0");
+    assert_eq!(bytes("1 and -258 oppose."), b"X:\0\0\0\0\x01\x01\0\0\x01\x02E:\0\0");
+    // The end record counts the rules, wherever the sheets stand.
+    let parts = [&b"O:\0\x01\0\x02S:\0\0\x01\0\0\0\0\0\0\x01"[..], b"X:\0\0\0\0\x01\0\0\0\0\x04E:\0\x01"];
+    assert_eq!(bytes("tag 1 overrides tag 2. 1.\n1 and 4 oppose."), parts.concat());
+    // What the library refuses has bytes all the same.
+    assert_eq!(bytes("tag 7 overrides tag 7."), b"O:\0\x07\0\x07E:\0\0");
+    let marks = "defeated(1, 2) and rule-defeated(3) oppose.";
+    assert_eq!(bytes(marks), b"X:\x02\0\x01\0\x02\x06\0\0\0\x03E:\0\0");
+    assert_eq!(list_program(&parsed(marks).items, &Names::default()), format!("{marks}\n"));
+}
+
+#[test]
+fn sheets_are_listed_with_names() {
+    let text = "atom 1 = servo_x. atom 4 = brake. tag 1 = drive. tag 2 = stop.\n\
+                tag drive overrides tag stop. servo_x and -brake oppose. tag 3 overrides tag drive. 4 and 5 oppose.";
+    let Parsed { items, names, .. } = parsed(text);
+    assert_eq!(bytes(text), bytes("tag 1 overrides tag 2. 1 and -4 oppose. tag 3 overrides tag 1. 4 and 5 oppose."));
+    let listed: Vec<_> = items.iter().map(|item| list_item(item, &names)).collect();
+    assert_eq!(listed[..2], ["tag drive overrides tag stop.", "servo_x and -brake oppose."]);
+    assert_eq!(listed[2..], ["tag 3 overrides tag drive.", "brake and 5 oppose."]);
+}
+
+#[test]
+fn words_of_sheets_may_be_names() {
+    let text = "atom 1 = oppose. atom 2 = overrides. tag 1 = overrides. tag 2 = oppose.\n\
+                tag overrides overrides tag oppose. oppose and -overrides oppose. tag overrides: oppose or overrides.";
+    assert_eq!(bytes(text), bytes("tag 1 overrides tag 2. 1 and -2 oppose. tag 1: 1 or 2."));
+    let Parsed { items, names, .. } = parsed(text);
+    assert_eq!(parsed(&list_program(&items, &names)).items, items);
+}
+
+#[test]
 fn each_kind_of_literal_has_its_bytes() {
     let heads = b"S:\0\0\x07\0\0\0\0\0\x01\x02\x01\0\0\x01\x02\x02\0\x03\0\x04\x03\0\x03\0\x04\
                   \x04\0\x03\0\x04\x05\0\x03\0\x04\x06\0\0\0\x09E:\0\x01";
@@ -34,8 +73,8 @@ fn each_kind_of_literal_has_its_bytes() {
 
 #[test]
 fn mixed_bodies_keep_the_order_of_each_part() {
-    let rule = &parsed("1 if not 5 and 2 and not 4 and 3.").rules[0];
-    assert_eq!(list_rule(rule, &Names::default()), "1 if 2 and 3 and not 5 and not 4.");
+    let rule = first_rule("1 if not 5 and 2 and not 4 and 3.");
+    assert_eq!(list_rule(&rule, &Names::default()), "1 if 2 and 3 and not 5 and not 4.");
 }
 
 #[test]
@@ -77,10 +116,14 @@ fn a_brace_tells_a_set_from_a_program() {
 fn what_has_bytes_is_left_to_the_library() {
     bytes("0 or 65535 or defeated(0, 0) or rule-defeated(65535). tag 0: never. tag 1: defeated(1, 2).");
     let (most, more) = ("1 and ".repeat(254), "1 and ".repeat(255));
-    assert_eq!(parsed(&format!("2 if {most}1.")).rules[0].positives.len(), 255);
+    assert_eq!(first_rule(&format!("2 if {most}1.")).positives.len(), 255);
     assert_eq!(place_of(&format!("2 if {more}1.")), (1, 6 + 6 * 255));
-    assert_eq!(parsed(&"1.".repeat(65_535)).rules.len(), 65_535);
+    assert_eq!(parsed(&"1.".repeat(65_535)).items.len(), 65_535);
     assert_eq!(place_of(&"1.\n".repeat(65_536)), (65_536, 1));
+    // Sheets have no count.
+    let sheets = "1 and 2 oppose.".repeat(65_536);
+    assert_eq!(parsed(&(sheets.clone() + &"1.".repeat(65_535))).items.len(), 65_536 + 65_535);
+    assert_eq!(place_of(&(sheets + "\n" + &"1.\n".repeat(65_536))), (65_537, 1));
 }
 
 /// The line and column of a program's first mistake.
@@ -107,7 +150,21 @@ fn mistakes_are_told_with_line_and_column() {
         ("atom 1 = a.\natom 2 = a.", (2, 10), "`a` is declared already, for 1"),
         ("tag 1 = a.\ntag 1 = b.", (2, 9), "1 has a name already, `a`"),
         ("atom a = b.", (1, 6), "an atom's number expected, and not `a`"),
-        ("tag 1 1.", (1, 7), "`:` (or, behind a tag's number, `=`) expected, and not 1"),
+        ("tag 1 1.", (1, 7), "`:` or `overrides` (or, behind a tag's number, `=`) expected, and not 1"),
+        (
+            "tag 1 oppose tag 2.",
+            (1, 7),
+            "`:` or `overrides` (or, behind a tag's number, `=`) expected, and not `oppose`",
+        ),
+        ("tag 1 overrides 2.", (1, 17), "`tag` expected, and not 2"),
+        ("tag 1 overrides tag a.", (1, 21), "no tag is declared as `a`"),
+        ("tag 1 overrides tag 2", (1, 22), "`.` expected, and not the end of the text"),
+        ("tag 1: 2 and 3 oppose.", (1, 10), "`or`, `if` or `.` expected, and not `and`"),
+        ("1 and 2.", (1, 8), "`oppose` expected, and not `.`"),
+        ("1 and 2 or 3.", (1, 9), "`oppose` expected, and not `or`"),
+        ("1 and not 2 oppose.", (1, 7), "a literal expected, and not `not`"),
+        ("1 or 2 and 3 oppose.", (1, 8), "`or`, `if` or `.` expected, and not `and`"),
+        ("1 and 2 oppose", (1, 15), "`.` expected, and not the end of the text"),
         ("defeated(1 2).", (1, 12), "`,` expected, and not 2"),
         ("derived(1, defeated(1, 2)).", (1, 12), "an atom or its negation expected, and not `defeated`"),
         ("rule-defeated(a).", (1, 15), "a rule's number expected, and not `a`"),
@@ -212,6 +269,25 @@ impl Random {
         }
     }
 
+    /// A rule, or each third time a record of a sheet.
+    fn item(&mut self) -> Item {
+        match self.below(6) {
+            0 => Item::Override(self.number(), self.number()),
+            1 => Item::Opposition(self.literal(), self.literal()),
+            _ => Item::Rule(self.rule()),
+        }
+    }
+
+    /// A record of a sheet that the library takes.
+    fn taken_sheet(&mut self) -> Item {
+        let (tag, atom) = (self.upto(SOURCE.tags - 1), self.upto(SOURCE.atoms - 1));
+        if self.below(2) == 0 {
+            Item::Override(tag, tag + 1)
+        } else {
+            Item::Opposition(Literal::Signed(SignedAtom::Negated(atom)), Literal::Signed(SignedAtom::Atom(atom + 1)))
+        }
+    }
+
     fn names(&mut self) -> Names {
         let mut names = Names::default();
         for _ in 0..self.below(6) {
@@ -228,33 +304,42 @@ impl Random {
 fn random_programs_come_back_from_their_bytes_and_their_listings() {
     let mut random = Random(0x9E37_79B9_7F4A_7C15);
     for _ in 0..400 {
-        let rules: Vec<_> = (0..random.below(9)).map(|_| random.rule()).collect();
+        let items: Vec<_> = (0..random.below(9)).map(|_| random.item()).collect();
         let names = random.names();
-        let encoded = encode_program(&rules);
-        assert_eq!(decode_program(&encoded.bytes), rules);
-        for (rule, record) in rules.iter().zip(&encoded.records) {
-            assert_eq!(decode_rule(&encoded.bytes[record.clone()]), *rule);
+        let encoded = encode_program(&items);
+        assert_eq!(decode_program(&encoded.bytes), items);
+        for (item, record) in items.iter().zip(&encoded.records) {
+            if let Item::Rule(rule) = item {
+                assert_eq!(decode_rule(&encoded.bytes[record.clone()]), *rule);
+            }
         }
 
-        let listing = list_program(&rules, &names);
+        let listing = list_program(&items, &names);
         let again = parsed(&listing);
-        assert_eq!((again.rules, again.names), (rules, names));
-        for (index, line) in again.lines.iter().enumerate() {
-            let number = format!("% rule {}", index + 1);
-            assert!(listing.lines().nth(line - 1).unwrap().ends_with(&number), "{listing}");
+        assert_eq!((&again.items, again.names), (&items, names));
+        let mut rules = 0;
+        for (item, line) in items.iter().zip(&again.lines) {
+            rules += usize::from(item.is_rule());
+            let ending = if item.is_rule() { format!(".  % rule {rules}") } else { ".".to_owned() };
+            assert!(listing.lines().nth(line - 1).unwrap().ends_with(&ending), "{listing}");
         }
     }
 }
 
 /// Every `step`th rule, the last among them: decoding and encoding have its record where the library shows it.
 fn records_are_as_shown(program: &[u8], is_plain: bool, step: usize) {
-    let rules = decode_program(program);
+    let items = decode_program(program);
+    let encoded = encode_program(&items);
+    assert_eq!(encoded.bytes, program);
+    assert_eq!(encoded.records.len(), items.len());
+    let (rules, records): (Vec<_>, Vec<_>) = items
+        .into_iter()
+        .zip(encoded.records)
+        .filter_map(|(item, record)| item.into_rule().map(|rule| (rule, record)))
+        .unzip();
     let read = if is_plain { aspda::read_plain(program) } else { aspda::read_source(program) };
     assert_eq!(read, Ok(rules.len() as u32));
-    let encoded = encode_program(&rules);
-    assert_eq!(encoded.bytes, program);
-    assert_eq!(encoded.records.len(), rules.len());
-    for (index, record) in encoded.records.into_iter().enumerate().rev().step_by(step) {
+    for (index, record) in records.into_iter().enumerate().rev().step_by(step) {
         let number = index as u32 + 1;
         let shown = if is_plain { aspda::show_plain(program, number) } else { aspda::show_source(program, number) };
         assert_eq!(shown.unwrap().as_ptr_range(), program[record].as_ptr_range());
@@ -268,13 +353,16 @@ fn records_lie_where_the_library_shows_them() {
     for is_plain in [false, true] {
         for _ in 0..200 {
             let count = random.below(12);
-            let rules: Vec<_> = (0..count)
+            let items: Vec<_> = (0..count)
                 .map(|_| {
+                    if !is_plain && random.below(3) == 0 {
+                        return random.taken_sheet();
+                    }
                     let counts = FULL.map(|most| random.below(most as u64 + 1) as usize);
-                    random.taken_rule(counts, is_plain)
+                    Item::Rule(random.taken_rule(counts, is_plain))
                 })
                 .collect();
-            records_are_as_shown(&encode_program(&rules).bytes, is_plain, 1);
+            records_are_as_shown(&encode_program(&items).bytes, is_plain, 1);
         }
     }
 }
@@ -282,16 +370,26 @@ fn records_lie_where_the_library_shows_them() {
 #[test]
 fn records_of_the_longest_programs_lie_where_the_library_shows_them() {
     let mut random = Random(0x9E6C_63D0_876A_9A35);
-    let rules: Vec<_> = (0..SOURCE.rules)
-        .map(|_| {
+    // Each rule with the same options, and one tag before each other: the sheets append as many rules as there can be,
+    // so that the translation has as many rules as the plain form takes.
+    let option = |atom| Literal::Signed(SignedAtom::Negated(atom));
+    let options: Vec<_> = (1..=SOURCE.heads as u16).map(option).collect();
+    let tags = SOURCE.sheets as u16 + 1;
+    let mut items: Vec<_> = (0..SOURCE.rules as u16)
+        .map(|index| {
             let rule = random.taken_rule(FULL, false);
-            // Each rule with options, so that the translation has as many rules as the plain form takes.
-            Rule { tag: Some(7), heads: random.taken_part(SOURCE.heads, 1), ..rule }
+            Item::Rule(Rule { tag: Some(1 + index % tags), heads: options.clone(), ..rule })
         })
         .collect();
-    let source = encode_program(&rules).bytes;
+    let pairs = (1..=SOURCE.heads as u16).flat_map(|one| (1..one).map(move |other| (one, other)));
+    let pairs = pairs.map(|(one, other)| Item::Opposition(option(one), option(other)));
+    items.splice(9..9, pairs.take(SOURCE.sheets));
+    items.extend((2..=tags).map(|lower| Item::Override(1, lower)));
+    let source = encode_program(&items).bytes;
     assert_eq!(source.len(), SOURCE.length);
     records_are_as_shown(&source, false, 1);
+    let appended = 2 * SOURCE.sheets * SOURCE.sheets;
+    assert_eq!(aspda::translation_bound(&source), 13 * source.len() + APPENDED_RULE * appended);
 
     let mut out = vec![0; aspda::translation_bound(&source)];
     let translation = aspda::translate(&source, &mut out).unwrap();

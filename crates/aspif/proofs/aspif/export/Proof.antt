@@ -18,7 +18,7 @@ read-marking-requires : tie.Need-read-marking-requires
 read-marking-requires c κs =
     let ok = c .before .before .before .before .pre in (
       ok .placeable,
-      (ok .strict, (length-replicate {A = ℕ} 6424 0, (zeros-empty 6424, empty-tallied _ _ refl (zeros-empty 6424) (zeros-empty 6424)))),
+      (ok .strict, (ok .unsheeted, (length-replicate {A = ℕ} 6424 0, (zeros-empty 6424, empty-tallied _ _ refl (zeros-empty 6424) (zeros-empty 6424))))),
     )
 
 -- the entry, where the program was read
@@ -50,7 +50,7 @@ export-marked-requires c κs =
     let made = at-read .read-marking .ensures .1 in (
       start .pre,
       (
-        given (a .lim) (now (a .s)) (a .out .now) (bytes at-read) _ (counted at-told),
+        given (a .lim) (now (a .s)) (a .out .now) (start .pre .unsheeted) (bytes at-read) _ (counted at-told),
         (made .1, λ w. made .0 _ (at-told .before .read2 .given .1) (holds-placed (start .pre) w)),
       ),
     )
@@ -67,10 +67,12 @@ returns-2 c =
     let at-export = c .before .before .before in
     let at-told = at-export .before .before .before .before in
     let at-read = read-of at-told in
-    let a = start-of at-read .args in
+    let start = start-of at-read in
+    let a = start .args in
+    let none = start .pre .unsheeted in
     let read = bytes at-read in
-    given-met (a .lim) (now (a .s)) (a .out .now) read _ (counted at-told)
-    (at-export .export-marked .ensures (given (a .lim) (now (a .s)) (a .out .now) read _ (counted at-told)))
+    given-met (a .lim) (now (a .s)) (a .out .now) none read _ (counted at-told)
+    (at-export .export-marked .ensures (given (a .lim) (now (a .s)) (a .out .now) none read _ (counted at-told)))
 
 pub export-spec : {M : Type 1} → statement M
 export-spec =

@@ -6,8 +6,8 @@ use Rattle.check_set.proofs.Laws.Forms.{checkable-source, checked-same}
 use Rattle.check_set.proofs.proposed.check_source.Statement.{statement}
 use Rattle.check_set.proofs.proposed.check_source.Tie as tie
 
-check-requires : tie.Need-check-requires
-check-requires c κs = checkable-source (c .before .before .before .limits .ensures)
+check-file-requires : tie.Need-check-file-requires
+check-file-requires c κs = checkable-source (c .before .before .before .limits .ensures)
 
 returns : tie.Need-returns
 returns c =
@@ -17,8 +17,8 @@ returns c =
     let at-limits = at-bodies .before in
     let at-shared-slice-known = at-limits .before .before .before in
     let a = at-shared-slice-known .before .args in
-    checked-same (now (a .s)) (now (a .k)) (a .out .now) (at-limits .limits .ensures) (at-check .check .ensures)
+    checked-same (now (a .s)) (now (a .k)) (a .out .now) (at-limits .limits .ensures) (at-check .check-file .ensures)
 
 pub check-source-spec : {M : Type 1} → statement M
 check-source-spec =
-    tie.close (tie.spec (λ c κs. search needs) (λ c. search needs) (λ c. search needs) check-requires (λ c. search needs) returns)
+    tie.close (tie.spec (λ c κs. search needs) (λ c. search needs) (λ c. search needs) check-file-requires (λ c. search needs) returns)

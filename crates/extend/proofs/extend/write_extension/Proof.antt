@@ -6,7 +6,7 @@ use mathlib.Core.Path.{refl}
 use borrow.Author.Needs.{needs}
 use denote.Ref.{now}
 use Rattle.buffer.specs.Bytes.{Bytes}
-use Rattle.extend.proofs.Laws.Outcome.{extending-marking, extending-long, extending-ascends, extending-few, extending-fitting, extending-short, extending-written}
+use Rattle.extend.proofs.Laws.Outcome.{extending-long, extending-ascends, extending-few, extending-fitting, extending-short, extending-written}
 use Rattle.extend.proofs.extend.write_extension.Statement.{statement}
 use Rattle.extend.proofs.extend.write_extension.Tie as tie
 
@@ -18,11 +18,8 @@ gather-marks-requires c κs =
     let q = start .pre in
     let bs : Bytes (now (a .s)) = λ i. at-shared-slice-known .shared-slice-known .given i .fits in
     let bk : Bytes (now (a .set)) = λ i. c .before .before .shared-slice-known2 .given i .fits in (
-      extending-long (a .lim) (now (a .s)) (now (a .set)) (q .0) (a .count) (q .1) bs bk,
-      (
-        extending-ascends (a .lim) (now (a .s)) (now (a .set)) (q .0) (a .count) (q .1) bs bk,
-        (extending-marking (a .lim) (now (a .s)) (now (a .set)) (q .0) (a .count) (q .1) bs bk, omega arith),
-      ),
+      extending-long (now (a .s)) (now (a .set)) (a .count) q bs bk,
+      (extending-ascends (now (a .s)) (now (a .set)) (a .count) q bs bk, (q .program, omega arith)),
     )
 
 abbrev start-of : tie.After-keys2 → tie.Start
@@ -37,18 +34,17 @@ few c =
     let start = start-of c in
     let a = start .args in
     let q = start .pre in
-    extending-few (a .lim) (now (a .s)) (now (a .set)) (q .0) (a .count) (q .1)
+    extending-few (now (a .s)) (now (a .set)) (a .count) q
     (λ i. at-keys .before .before .before .shared-slice-known .given i .fits)
     (λ i. at-keys .before .before .shared-slice-known2 .given i .fits) _ _ _ refl (c .before .gather-marks .ensures)
 
 returns : tie.Need-returns
-returns c =
+returns c w =
     let at-keys = c .before .before .before in
     let at-shared-slice-known = at-keys .before .before .before in
     let start = at-shared-slice-known .before in
     let a = start .args in
-    let q = start .pre in
-    extending-short (a .lim) (now (a .s)) (now (a .set)) (q .0) (a .count) (q .1)
+    extending-short (now (a .s)) (now (a .set)) (a .count) w
     (λ i. at-shared-slice-known .shared-slice-known .given i .fits) (λ i. at-keys .before .before .shared-slice-known2 .given i .fits)
     _ _ _ refl (c .before .before .gather-marks .ensures)
     (a .out .now) (c .if1 .taken)
@@ -63,24 +59,23 @@ write-joined-requires c κs =
     let bs : Bytes (now (a .s)) = λ i. at-keys .before .before .before .shared-slice-known .given i .fits in
     let bk : Bytes (now (a .set)) = λ i. at-keys .before .before .shared-slice-known2 .given i .fits in
     let g = at-keys2 .before .gather-marks .ensures in
-    let m = g (extending-marking (a .lim) (now (a .s)) (now (a .set)) (q .0) (a .count) (q .1) bs bk) in (
-      extending-long (a .lim) (now (a .s)) (now (a .set)) (q .0) (a .count) (q .1) bs bk,
+    let m = g (q .program) in (
+      extending-long (now (a .s)) (now (a .set)) (a .count) q bs bk,
       (
         omega (arith, m .count, m .same),
-        (few at-keys2, (c .before .before .if1 .left, extending-fitting (a .lim) (now (a .s)) (now (a .set)) (q .0) (a .count) (q .1) bs bk _ _ _ refl g)),
+        (few at-keys2, (c .before .before .if1 .left, extending-fitting (now (a .s)) (now (a .set)) (a .count) q bs bk _ _ _ refl g)),
       ),
     )
 
 returns-2 : tie.Need-returns-2
-returns-2 c =
+returns-2 c w =
     let at-write-joined = c .before .before in
     let at-if1 = at-write-joined .before .before .before in
     let at-keys = at-if1 .before .before .before in
     let at-shared-slice-known = at-keys .before .before .before in
     let start = at-shared-slice-known .before in
     let a = start .args in
-    let q = start .pre in
-    extending-written (a .lim) (now (a .s)) (now (a .set)) (q .0) (a .count) (q .1)
+    extending-written (now (a .s)) (now (a .set)) (a .count) w
     (λ i. at-shared-slice-known .shared-slice-known .given i .fits) (λ i. at-keys .before .before .shared-slice-known2 .given i .fits)
     _ _ _ refl (at-if1 .before .before .gather-marks .ensures)
     (a .out .now) _ (at-if1 .if1 .left) (at-write-joined .write-joined .ensures)

@@ -68,7 +68,7 @@ add-rule-requires c κs =
     let at-loop = loop-of (c .before) in
     let pre = start-of at-loop .pre in
     let room = next-room (next (c .before)) (held at-loop .asked) (here at-loop .made) in
-    (pre .0, (pre .1 .0, (next (c .before) .whole, (omega (arith, room .0, at-loop .loop .inv .0), omega (arith, room .1, at-loop .loop .inv .0)))))
+    (pre .0, (pre .1 .0, (next (c .before) .whole, λ e. (omega (arith, room e .0, at-loop .loop .inv .0), omega (arith, room e .1, at-loop .loop .inv .0)))))
 
 -- where the rule's marks were added
 abbrev part-of : tie.After-add-rule Inv-loop μ-loop → tie.After-part Inv-loop μ-loop

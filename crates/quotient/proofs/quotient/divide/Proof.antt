@@ -1,74 +1,65 @@
--- `quotient::divide` meets its contract: a refusal of the program or the set, 9, or what the pass gives.
+-- `quotient::divide` meets its contract: a refusal of the program or the set, or the quotient of what both hold.
 -- Assumes nothing.
-use mathlib.Core.Path.{sym, _∙_}
+use mathlib.Core.Path.{_≡_, sym, _∙_}
 use borrow.Author.Needs.{needs}
-use borrow.Author.Tests.{not-true, not-false}
 use denote.Ref.{now}
-use Rattle.quotient.proofs.Laws.Quotient.{Read, refused-met, holds, long, ascends, short-met, fitting, written-met}
+use Rattle.buffer.specs.Bytes.{Bytes}
+use Rattle.semantics.specs.Item.{expanded}
+use Rattle.record.specs.Layout.{encodedProgram}
+use Rattle.record.proofs.Laws.Meant.{form-unsheeted}
+use Rattle.inputs.specs.Code.{Inputs}
+use Rattle.inputs.proofs.Laws.Inputs.{inputs-read}
+use Rattle.quotient.proofs.Laws.Quotient.{refused-met, read-dividing, read-met}
 use Rattle.quotient.proofs.quotient.divide.Statement.{statement}
 use Rattle.quotient.proofs.quotient.divide.Tie as tie
 
 -- the entry, and where program and set were read
 abbrev start-of : tie.After-read-inputs → tie.Start
-start-of c =
-    let at-shared-slice-known = c .before .before .before in
-    at-shared-slice-known .before
+start-of c = c .before .before .before .before
 
-abbrev read-of : tie.After-inputs2 → tie.After-read-inputs
-read-of c = c .before .before
+abbrev read-of : tie.After-known-told2 → tie.After-read-inputs
+read-of c =
+    let at-match = c .before .before in
+    at-match .before
 
--- what was read
-given : (c : tie.After-inputs2) → Read (start-of (read-of c) .args .lim) (now (start-of (read-of c) .args .s))
-    (now (start-of (read-of c) .args .k)) (c .inputs2 .given .0 .0)
+-- the program's slice holds bytes; both were read, and the slice has the program's records
+bytes : (c : tie.After-read-inputs) → Bytes (now (start-of c .args .s))
+bytes c i = c .before .before .before .shared-slice-known .given i .fits
+
+given : (c : tie.After-known-told2) → (let a = start-of (read-of c) .args in
+    Inputs (a .lim) (a .lim .literals) (now (a .s)) (now (a .k)) (c .before .inputs2 .given .0 .0) (c .before .inputs2 .given .0 .1 .0))
 given c =
-    let slices = read-of c .before in
-    record {
-      sized = start-of (read-of c) .pre;
-      program-bytes = λ i. slices .before .before .shared-slice-known .given i .fits;
-      set-bytes = λ i. slices .before .shared-slice-known2 .given i .fits;
-      counted = sym (read-of c .read-inputs .ensures) ∙ c .inputs2 .given .1;
-    }
+    let a = start-of (read-of c) .args in
+    inputs-read (a .lim) (a .lim .literals) (now (a .s)) (now (a .k)) _ _ (sym (read-of c .read-inputs .ensures) ∙ c .before .inputs2 .given .1)
 
-is-room-requires : tie.Need-is-room-requires
-is-room-requires c κs =
-    let a = start-of (read-of (c .before)) .args in
-    let r = given (c .before) in
-    let of-set = long (a .lim) (now (a .s)) (now (a .k)) (a .out .now) r in
-    (holds (a .lim) (now (a .s)) (now (a .k)) (a .out .now) r, (of-set, ascends (a .lim) (now (a .s)) (now (a .k)) (a .out .now) r))
+same : (c : tie.After-known-told2) → now (start-of (read-of c) .args .s) ≡ encodedProgram (expanded (given c .file))
+same c =
+    let start = start-of (read-of c) in
+    let a = start .args in
+    form-unsheeted (a .lim) (now (a .s)) (given c .file) (bytes (read-of c)) (given c .holds) _ (given c .held) (start .pre .1)
+
+divide-program-requires : tie.Need-divide-program-requires
+divide-program-requires c κs =
+    let at-told = c .before in
+    let start = start-of (read-of at-told) in
+    let a = start .args in
+    read-dividing (a .lim) (now (a .s)) (now (a .k)) (a .out .now) (start .pre .0) (given at-told) (bytes (read-of at-told)) (now (a .s)) (same at-told)
 
 returns : tie.Need-returns
 returns c =
-    let at-count = c .before .before .before in
-    let a = start-of (read-of at-count) .args in
-    short-met (a .lim) (now (a .s)) (now (a .k)) (a .out .now) (given at-count) _ (c .before .is-room .ensures) (not-true _ (c .if1 .taken))
-
-write-quotient-requires : tie.Need-write-quotient-requires
-write-quotient-requires c κs =
-    let at-room = c .before .before in
-    let at-count = at-room .before .before in
-    let a = start-of (read-of at-count) .args in
-    let r = given at-count in (
-      fitting (a .lim) (now (a .s)) (now (a .k)) (a .out .now) r _ (at-room .is-room .ensures) (not-false _ (c .before .if1 .left)),
-      (long (a .lim) (now (a .s)) (now (a .k)) (a .out .now) r, ascends (a .lim) (now (a .s)) (now (a .k)) (a .out .now) r),
-    )
-
-returns-2 : tie.Need-returns-2
-returns-2 c =
     let at-read = c .before .before .before in
     let a = start-of at-read .args in
     refused-met (a .lim) (now (a .s)) (now (a .k)) (a .out .now) _ (sym (at-read .read-inputs .ensures) ∙ c .before .inputs .given .1)
 
-returns-3 : tie.Need-returns-3
-returns-3 c =
-    let at-write = c .before .before in
-    let at-test = at-write .before .before in
-    let at-count = at-test .before .before .before in
-    let a = start-of (read-of at-count) .args in
-    let done = at-write .write-quotient .ensures in
-    written-met (a .lim) (now (a .s)) (now (a .k)) (a .out .now) (given at-count) _ (at-test .before .is-room .ensures)
-    (not-false _ (at-test .if1 .left)) _ _ (done .0) (done .1)
+returns-2 : tie.Need-returns-2
+returns-2 c =
+    let at-divide = c .before .before in
+    let at-told = at-divide .before .before in
+    let start = start-of (read-of at-told) in
+    let a = start .args in
+    read-met (a .lim) (now (a .s)) (now (a .k)) (a .out .now) (start .pre .0) (given at-told) (bytes (read-of at-told)) (now (a .s)) (same at-told)
+    (at-divide .divide-program .ensures)
 
 pub divide-spec : {M : Type 1} → statement M
 divide-spec =
-    tie.close (tie.spec (λ c κs. search needs) (λ c. search needs) (λ c. search needs) is-room-requires returns write-quotient-requires
-    returns-2 (λ c. search needs) returns-3)
+    tie.close (tie.spec (λ c κs. search needs) (λ c. search needs) (λ c. search needs) divide-program-requires returns (λ c. search needs) returns-2)

@@ -1,16 +1,20 @@
 -- `quotient::quotient_plain` meets its contract: the form's figures fit two bytes each.
 -- Assumes nothing.
-use mathlib.Core.Path.{sym, subst}
+use mathlib.Core.Path.{_≡_, sym, subst}
 use denote.Ref.{now}
 use borrow.Author.Needs.{needs}
+use Rattle.literal.specs.declared.Limits.{Limits}
 use Rattle.literal.specs.Limits.{plain}
+use Rattle.record.proofs.Laws.Meant.{plain-unsheeted}
 use Rattle.quotient.specs.Code.{Sized}
 use Rattle.quotient.proofs.Laws.Quotient.{met-same, sized-plain}
 use Rattle.quotient.proofs.quotient.quotient_plain.Statement.{statement}
 use Rattle.quotient.proofs.quotient.quotient_plain.Tie as tie
 
 divide-requires : tie.Need-divide-requires
-divide-requires c κs = subst Sized (sym (c .before .limits .ensures)) sized-plain
+divide-requires c κs =
+    let same = sym (c .before .limits .ensures) in
+    (subst Sized same sized-plain, subst (λ (F : Limits). F .sheets ≡ 0) same plain-unsheeted)
 
 returns : tie.Need-returns
 returns c =

@@ -3,8 +3,8 @@
 use mathlib.Core.Path.{sym, _∙_}
 use borrow.Author.Needs.{needs}
 use denote.Ref.{now}
-use Rattle.record.proofs.Laws.Header.{record-cut, record-rule, record-end, record-unmarked}
-use Rattle.record_read.proofs.Laws.Front.{told-refused, told-end, mark-form, front-same}
+use Rattle.record.proofs.Laws.Header.{record-cut, record-rule, record-override, record-opposition, record-end, record-unmarked}
+use Rattle.record_read.proofs.Laws.Front.{told-refused, told-end, told-override, told-opposition, mark-form, front-same}
 use Rattle.record_read.proofs.step.read_front.Statement.{statement}
 use Rattle.record_read.proofs.step.read_front.Tie as tie
 
@@ -32,17 +32,32 @@ returns-3 : tie.Need-returns-3
 returns-3 c =
     let at-mark-of = c .before .before .before in
     let a = at-mark-of .before .before .before .args in
-    told-end (a .held) (now (a .t)) _ _ (c .read-end .ensures) (record-end (a .lim) (a .held) (now (a .t)) (at-mark-of .before .if1 .left)
-    (sym (at-mark-of .mark-of .ensures) ∙ c .before .enum-told .given .1))
+    told-override (a .lim) (a .held .overrides) (now (a .t)) _ _ (c .read-override .ensures)
+    (record-override (a .lim) (a .held) (now (a .t)) (at-mark-of .before .if1 .left) (sym (at-mark-of .mark-of .ensures) ∙ c .before .enum-told .given .1))
 
 returns-4 : tie.Need-returns-4
 returns-4 c =
     let at-mark-of = c .before .before .before in
     let a = at-mark-of .before .before .before .args in
+    told-opposition (a .lim) (a .held .oppositions) (now (a .t)) _ _ (c .read-opposition .ensures)
+    (record-opposition (a .lim) (a .held) (now (a .t)) (at-mark-of .before .if1 .left) (sym (at-mark-of .mark-of .ensures) ∙ c .before .enum-told2 .given .1))
+
+returns-5 : tie.Need-returns-5
+returns-5 c =
+    let at-mark-of = c .before .before .before in
+    let a = at-mark-of .before .before .before .args in
+    told-end (a .held .rules) (now (a .t)) _ _ (c .read-end .ensures) (record-end (a .lim) (a .held) (now (a .t)) (at-mark-of .before .if1 .left)
+    (sym (at-mark-of .mark-of .ensures) ∙ c .before .enum-told3 .given .1))
+
+returns-6 : tie.Need-returns-6
+returns-6 c =
+    let at-mark-of = c .before .before .before in
+    let a = at-mark-of .before .before .before .args in
     told-refused _ _ _ (c .refuse2 .ensures) (record-unmarked (a .lim) (a .held) (now (a .t)) (at-mark-of .before .if1 .left)
-    (sym (at-mark-of .mark-of .ensures) ∙ c .before .enum-told2 .given .1))
+    (sym (at-mark-of .mark-of .ensures) ∙ c .before .enum-told4 .given .1))
 
 pub read-front-spec : {M : Type 1} → statement M
 read-front-spec =
     tie.close (tie.spec (λ c κs. search needs) returns (λ c κs. search needs) (λ c. search needs) read-header-requires (λ c. search needs)
-    (λ c κs. search needs) (λ c. search needs) (λ c κs. search needs) returns-2 returns-3 returns-4)
+    (λ c κs. search needs) (λ c. search needs) (λ c κs. search needs) (λ c. search needs) (λ c κs. search needs) (λ c. search needs)
+    (λ c κs. search needs) returns-2 returns-3 returns-4 returns-5 returns-6)

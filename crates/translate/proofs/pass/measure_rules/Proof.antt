@@ -53,7 +53,7 @@ opens c = walk-open (here c .walk)
 add-total : tie.Need-add-total Inv-loop μ-loop
 add-total c =
     let at-loop = loop-of (c .before) in
-    let few = adds-few (next (c .before)) (held at-loop .bytes) (held at-loop .asked) .bytes in
+    let few = adds-few (next (c .before)) (held at-loop .asked) .bytes in
     omega (arith, few, here at-loop .made, c .measure-rule .ensures)
 
 loop-again : tie.Need-loop-again Inv-loop μ-loop

@@ -70,7 +70,7 @@ measure-of c = c .before .before
 
 -- what is counted and measured with it fits its type
 fits : (c : tie.After-part Inv-loop μ-loop) → Adds (here (loop-of c) .gone) (part (loop-of c))
-fits c = adds-few (next c) (held (loop-of c) .bytes) (held (loop-of c) .asked .translatable)
+fits c = adds-few (next c) (held (loop-of c) .asked .translatable)
 
 add-to : tie.Need-add-to Inv-loop μ-loop
 add-to c =
@@ -104,7 +104,7 @@ loop-again c =
 cast-write-end : tie.Need-cast-write-end Inv-loop μ-loop
 cast-write-end c =
     let at-loop = c .before .before in
-    omega (arith, made-few (here at-loop .walk) (held at-loop .bytes) (held at-loop .asked .translatable), here at-loop .made .counted)
+    omega (arith, made-few (here at-loop .walk) (held at-loop .asked .translatable), here at-loop .made .counted)
 
 write-end-requires : tie.Need-write-end-requires Inv-loop μ-loop
 write-end-requires c κs =

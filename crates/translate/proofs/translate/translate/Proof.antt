@@ -1,59 +1,60 @@
--- `translate::translate` meets its contract: the refusal of reading, 9 for too short a buffer, or what the second pass writes.
+-- `translate::translate` meets its contract: the refusal of reading, or what is written of the program that is meant.
 -- Assumes nothing.
 use mathlib.Core.Path.{_≡_, sym, _∙_}
 use borrow.Author.Needs.{needs}
 use denote.Ref.{now}
 use Rattle.buffer.specs.Bytes.{Bytes}
-use Rattle.record.specs.declared.Reading.{Reading}
-use Rattle.record.specs.Reading.{reading}
-use Rattle.translate.proofs.Laws.Translate.{refused-met, given, short-met, fitting, written-met}
+use Rattle.record.specs.declared.Holding.{Holding}
+use Rattle.record.specs.Reading.{items, holdingOf}
+use Rattle.translate.proofs.Laws.Translate.{refused-met, given, read-met, given-file, file-met}
 use Rattle.translate.proofs.translate.translate.Statement.{statement}
 use Rattle.translate.proofs.translate.translate.Tie as tie
 
--- the entry, and where the source was read
-abbrev start-of : tie.After-read → tie.Start
+-- the entry, and where the file was read
+abbrev start-of : tie.After-read-items → tie.Start
 start-of c = c .before .before .before
 
-abbrev read-of : tie.After-enum-told → tie.After-read
-read-of c = c .before .before
+abbrev read-of : tie.After-known-told2 → tie.After-read-items
+read-of c =
+    let at-match = c .before .before in
+    at-match .before
 
--- the source's elements are bytes
-bytes : (c : tie.After-read) → Bytes (now (start-of c .args .s))
+-- the file's elements are bytes, and it was read
+bytes : (c : tie.After-read-items) → Bytes (now (start-of c .args .s))
 bytes c i = c .before .before .shared-slice-known .given i .fits
 
--- it was read: it has so many rules
-counted : (c : tie.After-enum-told) → reading (start-of (read-of c) .args .lim) (now (start-of (read-of c) .args .s))
-    ≡ Reading.Count (c .enum-told .given .0 .0)
-counted c = sym (read-of c .read .ensures) ∙ c .enum-told .given .1
+held : (c : tie.After-known-told2) → (let a = start-of (read-of c) .args in holdingOf (items (a .lim) (now (a .s)))) ≡ Holding.All (c .before .file2 .given .0 .0)
+held c = sym (read-of c .read-items .ensures) ∙ c .before .file2 .given .1
 
-measure-rules-requires : tie.Need-measure-rules-requires
-measure-rules-requires c κs =
-    let start = start-of (read-of c) in
+translate-sheets-requires : tie.Need-translate-sheets-requires
+translate-sheets-requires c κs =
+    let at-told = c .before .before .before in
+    let start = start-of (read-of at-told) in
     let a = start .args in
-    given (a .lim) (now (a .s)) (a .out .now) (start .pre) (bytes (read-of c)) _ (counted c)
+    given-file (a .lim) (now (a .s)) (a .out .now) (start .pre .0) (bytes (read-of at-told)) _ (held at-told) (start .pre .1)
 
 returns : tie.Need-returns
 returns c =
-    let at-told = c .before .before in
+    let at-sheets = c .before .before in
+    let at-told = at-sheets .before .before .before .before in
     let start = start-of (read-of at-told) in
     let a = start .args in
-    short-met (a .lim) (now (a .s)) (a .out .now) (start .pre) (bytes (read-of at-told)) _ (counted at-told) _
-    (c .before .measure-rules .ensures) (c .if1 .taken)
+    file-met (a .lim) (now (a .s)) (a .out .now) (start .pre .0) (bytes (read-of at-told)) _ (held at-told) (start .pre .1)
+    (at-sheets .translate-sheets .ensures)
 
-write-rules-requires : tie.Need-write-rules-requires
-write-rules-requires c κs =
-    let at-measure = c .before .before in
-    let at-told = at-measure .before in
+write-translation-requires : tie.Need-write-translation-requires
+write-translation-requires c κs =
+    let at-if = c .before in
+    let at-told = at-if .before .before in
     let start = start-of (read-of at-told) in
     let a = start .args in
-    fitting (a .lim) (now (a .s)) (a .out .now) (start .pre) (bytes (read-of at-told)) _ (counted at-told) _
-    (at-measure .measure-rules .ensures) (c .before .if1 .left)
+    given (a .lim) (now (a .s)) (a .out .now) (start .pre .0) (bytes (read-of at-told)) _ (held at-told) (sym (at-if .before .has-sheets .ensures) ∙ at-if .if1 .left)
 
 returns-2 : tie.Need-returns-2
 returns-2 c =
     let at-read = c .before .before .before in
     let a = start-of at-read .args in
-    refused-met (a .lim) (now (a .s)) (a .out .now) _ (sym (at-read .read .ensures) ∙ c .before .read2 .given .1)
+    refused-met (a .lim) (now (a .s)) (a .out .now) _ (sym (at-read .read-items .ensures) ∙ c .before .file .given .1)
 
 returns-3 : tie.Need-returns-3
 returns-3 c =
@@ -62,11 +63,10 @@ returns-3 c =
     let at-told = at-if .before .before in
     let start = start-of (read-of at-told) in
     let a = start .args in
-    written-met (a .lim) (now (a .s)) (a .out .now) (start .pre) (bytes (read-of at-told)) _ (counted at-told) _
-    (at-if .before .measure-rules .ensures) (at-if .if1 .left) _
-    (at-write .write-rules .ensures)
+    read-met (a .lim) (now (a .s)) (a .out .now) (start .pre .0) (bytes (read-of at-told)) _ (held at-told)
+    (sym (at-if .before .has-sheets .ensures) ∙ at-if .if1 .left) (at-write .write-translation .ensures)
 
 pub translate-spec : {M : Type 1} → statement M
 translate-spec =
-    tie.close (tie.spec (λ c κs. search needs) (λ c. search needs) (λ c. search needs) measure-rules-requires returns write-rules-requires
-    returns-2 (λ c. search needs) returns-3)
+    tie.close (tie.spec (λ c κs. search needs) (λ c. search needs) (λ c. search needs) (λ c κs. search needs) translate-sheets-requires (λ c. search needs)
+    returns write-translation-requires returns-2 (λ c. search needs) returns-3)

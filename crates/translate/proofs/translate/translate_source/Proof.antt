@@ -4,13 +4,17 @@ use mathlib.Core.Path.{sym, subst}
 use borrow.Author.Needs.{needs}
 use denote.Ref.{now}
 use Rattle.literal.specs.Limits.{source}
+use Rattle.expand.specs.Code.{Normalizable}
+use Rattle.expand.proofs.Laws.File.{normalizable-source}
 use Rattle.translate.specs.Code.{Writable}
 use Rattle.translate.proofs.Laws.Translate.{meets-same, writable-source}
 use Rattle.translate.proofs.translate.translate_source.Statement.{statement}
 use Rattle.translate.proofs.translate.translate_source.Tie as tie
 
 translate-requires : tie.Need-translate-requires
-translate-requires c κs = subst Writable (sym (c .before .limits .ensures)) writable-source
+translate-requires c κs =
+    let same = sym (c .before .limits .ensures) in
+    (subst Writable same writable-source, subst Normalizable same normalizable-source)
 
 returns : tie.Need-returns
 returns c =

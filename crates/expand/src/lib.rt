@@ -1,0 +1,6 @@
+// A source's normal form: its rules, and behind them those that its preference sheets append, with no sheet.
+
+pub mod normal;
+
+// So many bytes are enough for the normal form of any source: its own, and 17 for each of 8,192 rules.
+pub const NORMAL: usize = 203652;

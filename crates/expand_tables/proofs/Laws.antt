@@ -1,0 +1,5 @@
+pub mod Added
+pub mod Mask
+pub mod Place
+pub mod Table
+pub mod Update

@@ -1,0 +1,12 @@
+-- `quotient::divide_sheets` meets its contract: an array of our own has room for the normal form.
+-- Assumes nothing.
+use borrow.Author.Needs.{needs}
+use Rattle.quotient.proofs.quotient.divide_sheets.Statement.{statement}
+use Rattle.quotient.proofs.quotient.divide_sheets.Tie as tie
+
+returns : tie.Need-returns
+returns c w = let at-out = c .before in at-out .before .before .divide-normal .ensures w
+
+pub divide-sheets-spec : {M : Type 1} → statement M
+divide-sheets-spec =
+    tie.close (tie.spec (λ c. search needs) (λ c κs. let at-known = c .before .before in at-known .before .before .before .pre) (λ c. search needs) returns)
