@@ -3,8 +3,9 @@
  * Every function answers one 64-bit word. A refusal is 2^63 + number * 2^32 + place, with the number of documents 01 and 02
  * and the byte offset of its place; all else is below 2^63. A pointer comes with its length and is never null; the slice
  * that a call writes to overlaps none of the others. The functions read and write nothing but the slices that they are
- * lent and their stack (356 KiB in the check of a source, 348 KiB in the check of a plain program, 266 KiB in extend, 220 KiB
- * in translate and in the quotient of a source, 92 KiB in aspif, 1 KiB elsewhere), keep no state and take no other memory.
+ * lent and their stack (of a source without preference sheets 22 KiB in the check, 1 KiB in translate and the quotient; with
+ * sheets 356 KiB in the check, 220 KiB in translate and the quotient; 348 KiB in the check of a plain program, 65 KiB in extend,
+ * 92 KiB in aspif, 1 KiB elsewhere), keep no state and take no other memory.
  */
 #ifndef ASPDA_H
 #define ASPDA_H

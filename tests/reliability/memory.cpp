@@ -295,7 +295,7 @@ std::size_t most_stack(unsigned operation)
     switch (operation) {
     case calls::check_source: return 360 << 10;
     case calls::check_plain: return 352 << 10;
-    case calls::extend: return 272 << 10;
+    case calls::extend: return 68 << 10;
     case calls::translate:
     case calls::quotient_source: return 224 << 10;
     case calls::aspif: return 96 << 10;
@@ -303,13 +303,33 @@ std::size_t most_stack(unsigned operation)
     }
 }
 
+// The same for a source without sheets, which needs no array for a normal form.
+std::size_t most_stack_unsheeted(unsigned operation)
+{
+    switch (operation) {
+    case calls::check_source: return 24 << 10;
+    case calls::translate:
+    case calls::quotient_source: return 4 << 10;
+    default: return most_stack(operation);
+    }
+}
+
+// No two bytes of the program could be a sheet record's mark.
+bool is_unsheeted(const Bytes &program)
+{
+    auto marks = [](std::uint8_t letter, std::uint8_t colon) { return (letter == 'O' || letter == 'X') && colon == ':'; };
+    return std::adjacent_find(program.begin(), program.end(), marks) == program.end();
+}
+
 int run_stack()
 {
     auto *stack = static_cast<std::uint8_t *>(
         mmap(nullptr, stack_size, PROT_READ | PROT_WRITE, MAP_PRIVATE | MAP_ANONYMOUS, -1, 0));
-    std::array<std::size_t, calls::exports.size()> most{};
+    std::array<std::size_t, calls::exports.size()> most{}, most_unsheeted{};
     Visit measure = [&](const Call &call) {
-        most[call.operation] = std::max(most[call.operation], stack_of(call, stack));
+        std::size_t used = stack_of(call, stack);
+        most[call.operation] = std::max(most[call.operation], used);
+        if (is_unsheeted(call.program)) most_unsheeted[call.operation] = std::max(most_unsheeted[call.operation], used);
         return true;
     };
     visit_all(20, 3, measure);
@@ -317,11 +337,13 @@ int run_stack()
     visit_deepest(measure);
     visit_most_appended(measure);
     bool well = true;
-    std::puts("export            stack in bytes, of at most");
+    std::puts("export            stack in bytes, of at most; without sheets, of at most");
     for (unsigned i = 0; i < calls::exports.size(); ++i) {
-        std::printf("%-16s %8zu %8zu\n", calls::exports[i].name, most[i], most_stack(i));
+        std::printf("%-16s %8zu %8zu %8zu %8zu\n", calls::exports[i].name, most[i], most_stack(i), most_unsheeted[i],
+                    most_stack_unsheeted(i));
         // A call takes some stack: 0 is a table of nothing.
         well = well && 0 < most[i] && most[i] <= most_stack(i);
+        well = well && 0 < most_unsheeted[i] && most_unsheeted[i] <= most_stack_unsheeted(i);
     }
     return well ? 0 : 1;
 }

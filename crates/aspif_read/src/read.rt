@@ -80,16 +80,18 @@ fn mark_body(lim: Limits, t: &[u8], bits: &mut [u64], counts: &mut [u32]) -> Ste
 fn mark_record(lim: Limits, t: &[u8], held: Held, bits: &mut [u64], counts: &mut [u32]) -> Step
     requires { ⌜ Placeable lim ⌝ }
     requires { ⌜ lim .defeasible ≡ false ⌝ }
+    requires { ⌜ lim .sheets ≡ 0 ⌝ }
     requires { ⌜ length (now bits) ≡ words ⌝ }
     requires { ⌜ Tallied (now bits) (now counts) ⌝ }
     ensures { λ r. ⌜ r ≡ stepOf (recordAt lim held (now (t .entry))) ⌝ }
     ensures { λ r. ⌜ Marked (now (t .entry)) (now (bits .entry)) (now (bits .exit)) r ⌝ }
     ensures { λ _. ⌜ Tallied (now (bits .exit)) (now (counts .exit)) ⌝ }
 {
-    let front = read_front(lim, t, held);
+    let front = read_front(lim, t, held.rules);
     match front {
         Front::Told(step) => step,
         Front::Literals(_) => mark_body(lim, t, bits, counts),
+        Front::Other => refuse(Reason::MarkWrong),
     }
 }
 

@@ -1,10 +1,11 @@
 -- What the parts of the check find, between the set's slice and the finding, and what the check asks of a form.
 -- In order: the record and the verdict of what a search over masks found; that the search was done; that a program and a set can be
--- judged; that they were; a form that the code has room for; a program and a set that can be checked; their check.
+-- judged; that they were; a form that the code has room for; a program and a set that can be checked; their check; a file with sheets or
+-- a program, and what is answered of it.
 -- Assumes nothing.
 use Prim.Native.Nat.{ℕ, _+_, _-_, _^_, _≤_, _<_}
 use mathlib.Core.Path.{_≡_}
-use mathlib.Core.Bool.{cond}
+use mathlib.Core.Bool.{Bool, true, false, cond}
 use mathlib.Core.List.{List, []}
 use lib.ListN.{length}
 use Rattle.buffer.specs.Bytes.{Bytes}
@@ -12,21 +13,24 @@ use Rattle.buffer.specs.Write.{write}
 use Rattle.literal.specs.declared.Limits.{Limits}
 use Rattle.literal.specs.declared.Literal.{Literal}
 use Rattle.semantics.specs.Rule.{Program}
+use Rattle.semantics.specs.Item.{expanded}
 use Rattle.semantics.specs.Form.{mostAppended}
 use Rattle.semantics.specs.Verdict.{finding}
 use Rattle.record.specs.Layout.{encodedProgram}
 use Rattle.record.specs.Result.{accepted}
 use Rattle.record_walk.specs.Code.{Holds, HoldsFile}
-use Rattle.expand.specs.Code.{Meaning}
+use Rattle.expand.specs.Code.{normalBytes, Meaning}
 use Rattle.set.specs.Reading.{parsedSet}
 use Rattle.check_force.specs.Code.{Smaller}
 use Rattle.check_search.specs.declared.Found.{Found}
 use Rattle.check_search.specs.Code.{First}
 use Rattle.check_clauses.specs.Code.{Clausable}
 use Rattle.check_witness.specs.Code.{pickedRecord}
+use Rattle.check_set.specs.declared.Check.{Check}
 use Rattle.check_set.specs.declared.Verdict.{Verdict}
 use Rattle.check_set.specs.Verdict.{verdictOf, witness}
 use Rattle.check_set.specs.Check.{foundOf, Checked, checkedOf}
+use Rattle.check_set.specs.Meets.{MeetsCheck}
 
 -- of a set with n literals in s, the record of the part that was found; nothing where none was
 unfoldable pub foundRecord : List ℕ → ℕ → Found → List ℕ
@@ -107,3 +111,19 @@ pub record CheckableFile (F : Limits) (b h : ℕ) : Type 0 where
 -- the check of a program and of a set of these literals, whose record is k
 abbrev pub checkOf : Program → List Literal → List ℕ → List ℕ → Checked
 checkOf p ls k out = checkedOf (foundOf p ls k out) out
+
+-- s holds a file with sheets, with arrays of our own for its normal form and the clauses, or a program with room for a clause of each rule;
+-- and the set in k can be checked against either
+abbrev pub Given : Bool → List ℕ → List ℕ → ℕ → ℕ → ℕ → Type 0
+Given true s k n b h = CheckingFile normalBytes s k n expandedRules expandedRules
+Given false s k n b h = Checking s k n b h
+
+-- where the array that is lent is long enough for any normal form, those for clauses are for a program with all that sheets append
+abbrev pub Lent : ℕ → ℕ → ℕ → Type 0
+Lent m b h = normalBytes ≤ m → (b ≡ expandedRules) × (h ≡ expandedRules)
+
+-- the answer r and the output, as it is at the end, are those of the program that either means
+abbrev pub Answered : Bool → List ℕ → List ℕ → ℕ → ℕ → ℕ → List ℕ → Check → List ℕ → Type 0
+Answered true s k n b h out r end =
+    (w : CheckingFile normalBytes s k n expandedRules expandedRules) → MeetsCheck (checkOf (expanded (w .file .items)) (w .literals) k out) r end
+Answered false s k n b h out r end = (w : Checking s k n b h) → MeetsCheck (checkOf (w .program .program) (w .literals) k out) r end

@@ -19,14 +19,14 @@ ghost use Rattle.semantics.specs.Item.{expanded};
 ghost use Rattle.expand.specs.Code.{normalBytes, Normalizable};
 ghost use Rattle.check_set.specs.Check.{checked};
 ghost use Rattle.check_set.specs.Meets.{MeetsCheck};
-ghost use Rattle.check_set.specs.Code.{Checkable, Checking, CheckingFile, expandedRules, CheckableFile, checkOf};
+ghost use Rattle.check_set.specs.Code.{Checkable, Checking, CheckingFile, expandedRules, CheckableFile, checkOf, Given, Lent, Answered};
 
 // The rules of the largest program that a source means: those that are written, and those that its sheets append.
 const EXPANDED_RULES: usize = 8448;
 
 // Checks the set of `n` literals that `k` holds against the program that `s` holds. The clauses go to `bodies` and `heads`,
 // which have room for one of each rule; a smaller model is written to the start of `out`.
-pub fn check_program(
+fn check_program(
     s: &[u8],
     k: &[u8],
     n: usize,
@@ -66,9 +66,12 @@ fn check(
     }
 }
 
-// Checks a set against the program that the file in `s` means, by way of its normal form, which is written to `normal`.
-fn check_normal(
+// Checks a set against the program that `s` means: `sheeted` says whether it is a file with sheets, or has the program's records itself. The
+// clauses of those go to `bodies` and `heads`. A file with sheets is taken to its normal form in `normal`, if that is long enough, and this
+// function goes on with it. It calls itself for the compiler's sake, as `translate_meant` does (crate `translate`).
+fn check_meant(
     s: &[u8],
+    sheeted: bool,
     k: &[u8],
     n: usize,
     normal: &mut [u8],
@@ -76,14 +79,33 @@ fn check_normal(
     heads: &mut [u64],
     out: &mut [u8],
 ) -> Check
-    requires { ⌜ CheckingFile (length (now normal)) (now s) (now k) n (length (now bodies)) (length (now heads)) ⌝ }
-    ensures { λ r. ⌜ ((w : CheckingFile (length (now (normal .entry))) (now (s .entry)) (now (k .entry)) n (length (now (bodies .entry))) (length (now (heads .entry)))) → MeetsCheck (checkOf (expanded (w .file .items)) (w .literals) (now (k .entry)) (now (out .entry))) r (now (out .exit))) ⌝ }
+    requires { ⌜ Given sheeted (now s) (now k) n (length (now bodies)) (length (now heads)) ⌝ }
+    requires { ⌜ Lent (length (now normal)) (length (now bodies)) (length (now heads)) ⌝ }
+    ensures { λ r. ⌜ Answered sheeted (now (s .entry)) (now (k .entry)) n (length (now (bodies .entry))) (length (now (heads .entry))) (now (out .entry)) r (now (out .exit)) ⌝ }
 {
-    let m = write_normal(s, normal);
-    check_program(&normal[..m], k, n, bodies, heads, out)
+    if !sheeted {
+        return check_program(s, k, n, bodies, heads, out);
+    }
+    if normal.len() < NORMAL {
+        return check_sheets(s, k, n, out);
+    }
+    let made = write_normal(s, normal);
+    let m = made.size;
+    let mut none = [0u8; 1];
+    check_meant(
+        &normal[..m],
+        made.sheeted,
+        k,
+        n,
+        &mut none,
+        bodies,
+        heads,
+        out,
+    )
 }
 
-// The same, with arrays for the normal form and for a clause of each rule.
+// Checks a set against the program that a file with sheets means, with arrays for its normal form and for a clause of each rule, appended ones
+// too.
 fn check_sheets(s: &[u8], k: &[u8], n: usize, out: &mut [u8]) -> Check
     requires { ⌜ CheckingFile normalBytes (now s) (now k) n expandedRules expandedRules ⌝ }
     ensures { λ r. ⌜ ((w : CheckingFile normalBytes (now (s .entry)) (now (k .entry)) n expandedRules expandedRules) → MeetsCheck (checkOf (expanded (w .file .items)) (w .literals) (now (k .entry)) (now (out .entry))) r (now (out .exit))) ⌝ }
@@ -91,7 +113,7 @@ fn check_sheets(s: &[u8], k: &[u8], n: usize, out: &mut [u8]) -> Check
     let mut normal = [0u8; NORMAL];
     let mut bodies = [0u64; EXPANDED_RULES];
     let mut heads = [0u64; EXPANDED_RULES];
-    check_normal(s, k, n, &mut normal, &mut bodies, &mut heads, out)
+    check_meant(s, true, k, n, &mut normal, &mut bodies, &mut heads, out)
 }
 
 // Checks the set in `k` against the program that the file in `s` means, in a form: a file without sheets has the program's records
@@ -113,7 +135,8 @@ fn check_file(
         Both::Refused(x) => Check::Refused(x),
         Both::Read(held, n) => {
             if has_sheets(held) {
-                return check_sheets(s, k, n, out);
+                let mut none = [0u8; 1];
+                return check_meant(s, true, k, n, &mut none, bodies, heads, out);
             }
             check_program(s, k, n, bodies, heads, out)
         }

@@ -1,6 +1,7 @@
 // The normal form of a source with preference sheets: one pass over its items, one over its rules, then each override with each pair of
 // opposed options.
 
+use crate::Made;
 use expand_collect::Sheets;
 use expand_collect::collect::collect;
 use expand_heads::heads::mark_heads;
@@ -10,6 +11,7 @@ use expand_tables::SHEET_PLACES;
 use expand_tables::TAG_PLACES;
 use record_write::records::write_end;
 ghost use mathlib.Core.Path.{_≡_};
+ghost use mathlib.Core.Bool.{false};
 ghost use lib.ListN.{length};
 ghost use Rattle.record_walk.specs.Code.{HoldsFile};
 ghost use Rattle.expand_collect.specs.Code.{state};
@@ -70,10 +72,12 @@ fn write_behind(
     end + 4
 }
 
-// The normal form of the source that `s` holds, to the start of `out`; how many bytes it has. What is behind it there may be anything.
-pub fn write_normal(s: &[u8], out: &mut [u8]) -> usize
+// The normal form of the source that `s` holds, to the start of `out`: its size, and that it has no sheets. What is behind it there may be
+// anything.
+pub fn write_normal(s: &[u8], out: &mut [u8]) -> Made
     requires { ⌜ HoldsFile (Expandable (length (now out))) (now s) ⌝ }
-    ensures { λ r. ⌜ ((w : HoldsFile (Expandable (length (now (out .entry)))) (now (s .entry))) → Normal (now (out .entry)) (w .items) r (now (out .exit))) ⌝ }
+    ensures { λ r. ⌜ ((w : HoldsFile (Expandable (length (now (out .entry)))) (now (s .entry))) → Normal (now (out .entry)) (w .items) (r .size) (now (out .exit))) ⌝ }
+    ensures { λ r. ⌜ r .sheeted ≡ false ⌝ }
 {
     let mut up = [0u64; TAG_PLACES];
     let mut low = [0u64; TAG_PLACES];
@@ -91,7 +95,7 @@ pub fn write_normal(s: &[u8], out: &mut [u8]) -> usize
         &mut ones,
         &mut others,
     );
-    write_behind(
+    let size = write_behind(
         out,
         &up,
         &low,
@@ -101,5 +105,9 @@ pub fn write_normal(s: &[u8], out: &mut [u8]) -> usize
         &mut win,
         &mut lose,
         held,
-    )
+    );
+    Made {
+        size,
+        sheeted: false,
+    }
 }

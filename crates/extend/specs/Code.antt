@@ -1,6 +1,6 @@
 -- What extending asks of a form and of what was read, and the record that it writes.
--- In order: limits for which an extension is made; a program and a set whose extension can be written, and a file and a set; the extension,
--- delivered; a set's literals with marks behind them.
+-- In order: limits for which an extension is made; a file and a set whose extension can be written; the extension, delivered; a set's
+-- literals with marks behind them.
 -- Assumes nothing.
 use Prim.Native.Nat.{ℕ, _+_, _*_, _≤_, _<_}
 use mathlib.Core.Path.{_≡_}
@@ -11,13 +11,12 @@ use Rattle.literal.specs.declared.Literal.{Literal}
 use Rattle.semantics.specs.Rule.{Program}
 use Rattle.semantics.specs.Form.{mostAppended, TakesDefeats}
 use Rattle.record.specs.Result.{accepted, Outcome, delivered}
-use Rattle.record_walk.specs.Code.{Holds, HoldsFile}
-use Rattle.expand.specs.Code.{Meaning}
+use Rattle.record_walk.specs.Code.{HoldsFile}
 use Rattle.set.specs.Layout.{encodedSet}
 use Rattle.set.specs.Reading.{parsedSet}
 use Rattle.set.specs.Code.{setHeader}
 use Rattle.keys.specs.Code.{keyBytes}
-use Rattle.extend_marks.specs.Code.{Markable}
+use Rattle.extend_marks.specs.Code.{MarkableFile}
 use Rattle.extend.specs.Extend.{extensionList}
 
 -- the marks that a program's rules may add, no more than a rule has options
@@ -34,19 +33,9 @@ pub record Extendable (F : Limits) : Type 0 where
   pub tags : F .tags < 65536
   pub total : F .literals + most < 65536
 
--- s holds a program whose marks there is room for, and k a set of a form's literals, n of them, which two bytes count with the marks
+-- s holds a file whose rules' marks there is room for, and k a set of a form's literals, n of them, which two bytes count with the marks
 pub record Extending (s k : List ℕ) (n : ℕ) : Type 0 where
-  pub program : Holds (Markable most) s
-  pub form : Limits
-  pub upto : ℕ
-  pub literals : List Literal
-  pub members : parsedSet form upto k ≡ accepted literals
-  pub counted : n ≡ length literals
-  pub total : n + most < 65536
-
--- s holds a file whose program's marks there is room for, with `bytes` bytes for its normal form, and k such a set
-pub record ExtendingFile (bytes : ℕ) (s k : List ℕ) (n : ℕ) : Type 0 where
-  pub file : HoldsFile (Meaning (Markable most) bytes) s
+  pub file : HoldsFile (MarkableFile most) s
   pub form : Limits
   pub upto : ℕ
   pub literals : List Literal

@@ -1,7 +1,5 @@
 // The extension of a source set: the program and the set are read, the marks gathered and sorted, and the record written.
 
-use expand::NORMAL;
-use expand::normal::write_normal;
 use extend_marks::marks::collect_marks;
 use inputs::Both;
 use inputs::read::read_inputs;
@@ -12,7 +10,6 @@ use literal::form::Source;
 use record::Reason;
 use record::Refusal;
 use record::Written;
-use record_read::read::has_sheets;
 use record_write::copy::copy;
 use set::header::write_set_header;
 ghost use Prim.Native.Nat.{_+_, _*_, _≤_, _<_};
@@ -22,29 +19,28 @@ ghost use lib.ListN.{length, take};
 ghost use Rattle.buffer.specs.Write.{write};
 ghost use Rattle.literal.specs.Order.{key};
 ghost use Rattle.literal.specs.Limits.{source};
-ghost use Rattle.semantics.specs.Item.{expanded};
+ghost use Rattle.semantics.specs.Item.{rules};
 ghost use Rattle.record.specs.Meets.{Meets};
-ghost use Rattle.expand.specs.Code.{normalBytes, Normalizable};
-ghost use Rattle.record_walk.specs.Code.{Holds};
+ghost use Rattle.record_walk.specs.Code.{HoldsFile};
 ghost use Rattle.set.specs.Code.{Ascends, keySet};
 ghost use Rattle.keys.specs.Keys.{sortedKeys};
 ghost use Rattle.keys.specs.Code.{Fitting};
 ghost use Rattle.keys_sort.specs.Code.{Sorted};
 ghost use Rattle.extend_marks.specs.Marks.{marksFrom};
-ghost use Rattle.extend_marks.specs.Code.{Markable};
+ghost use Rattle.extend_marks.specs.Code.{MarkableFile};
 ghost use Rattle.extend.specs.Extend.{extended};
-ghost use Rattle.extend.specs.Code.{most, Extendable, Extending, ExtendingFile, extensionOf, joined};
+ghost use Rattle.extend.specs.Code.{most, Extendable, Extending, extensionOf, joined};
 
 // The marks that a source's rules may add: no more than a rule has options.
 const MOST: usize = 4096;
 
-// The marks of a program's rules, ascending and each once, at the front of `keys`; how many there are.
+// The marks of a file's rules, ascending and each once, at the front of `keys`; how many there are.
 fn gather_marks(s: &[u8], set: &[u8], count: usize, keys: &mut [u64]) -> usize
     requires { ⌜ 4 + 5 * count ≤ length (now set) ⌝ }
     requires { ⌜ Ascends (now set) count ⌝ }
-    requires { ⌜ Holds (Markable (length (now keys))) (now s) ⌝ }
+    requires { ⌜ HoldsFile (MarkableFile (length (now keys))) (now s) ⌝ }
     requires { ⌜ length (now keys) ≤ most ⌝ }
-    ensures { λ r. ⌜ ((w : Holds (Markable (length (now (keys .entry)))) (now (s .entry))) → Sorted (now (keys .entry)) (now (keys .exit)) r (sortedKeys (map key (marksFrom 1 (w .program) (keySet (now (set .entry)) count))))) ⌝ }
+    ensures { λ r. ⌜ ((w : HoldsFile (MarkableFile (length (now (keys .entry)))) (now (s .entry))) → Sorted (now (keys .entry)) (now (keys .exit)) r (sortedKeys (map key (marksFrom 1 (rules (w .items)) (keySet (now (set .entry)) count))))) ⌝ }
 {
     let mut spare = [0u64; MOST];
     let n = collect_marks(s, set, count, keys);
@@ -67,10 +63,10 @@ fn write_joined(set: &[u8], count: usize, keys: &[u64], n: usize, out: &mut [u8]
     write_keys(keys, n, out, 4 + size);
 }
 
-// The extension of the set that `set` holds, for the program that `s` holds.
-pub fn write_extension(s: &[u8], set: &[u8], count: usize, out: &mut [u8]) -> Written
+// The extension of the set that `set` holds, for the rules in the file that `s` holds: sheets append strict rules, which add no mark.
+fn write_extension(s: &[u8], set: &[u8], count: usize, out: &mut [u8]) -> Written
     requires { ⌜ Extending (now s) (now set) count ⌝ }
-    ensures { λ r. ⌜ ((w : Extending (now (s .entry)) (now (set .entry)) count) → Meets (extensionOf (w .program .program) (w .literals) (now (out .entry))) r (now (out .exit))) ⌝ }
+    ensures { λ r. ⌜ ((w : Extending (now (s .entry)) (now (set .entry)) count) → Meets (extensionOf (rules (w .file .items)) (w .literals) (now (out .entry))) r (now (out .exit))) ⌝ }
 {
     let mut keys = [0u64; MOST];
     let n = gather_marks(s, set, count, &mut keys);
@@ -85,40 +81,15 @@ pub fn write_extension(s: &[u8], set: &[u8], count: usize, out: &mut [u8]) -> Wr
     Written::Length(size)
 }
 
-// The extension for the program that the file in `s` means, by way of its normal form, which is written to `normal`.
-fn extend_normal(s: &[u8], k: &[u8], count: usize, normal: &mut [u8], out: &mut [u8]) -> Written
-    requires { ⌜ ExtendingFile (length (now normal)) (now s) (now k) count ⌝ }
-    ensures { λ r. ⌜ ((w : ExtendingFile (length (now (normal .entry))) (now (s .entry)) (now (k .entry)) count) → Meets (extensionOf (expanded (w .file .items)) (w .literals) (now (out .entry))) r (now (out .exit))) ⌝ }
-{
-    let n = write_normal(s, normal);
-    write_extension(&normal[..n], k, count, out)
-}
-
-// The same, with an array for the normal form.
-fn extend_sheets(s: &[u8], k: &[u8], count: usize, out: &mut [u8]) -> Written
-    requires { ⌜ ExtendingFile normalBytes (now s) (now k) count ⌝ }
-    ensures { λ r. ⌜ ((w : ExtendingFile normalBytes (now (s .entry)) (now (k .entry)) count) → Meets (extensionOf (expanded (w .file .items)) (w .literals) (now (out .entry))) r (now (out .exit))) ⌝ }
-{
-    let mut normal = [0u8; NORMAL];
-    extend_normal(s, k, count, &mut normal, out)
-}
-
-// The extension of the set in `k`, for the program that the file in `s` means, both in a form: a file without sheets has the program's
-// records itself.
+// The extension of the set in `k`, for the program that the file in `s` means, both in a form.
 fn extend(lim: Limits, s: &[u8], k: &[u8], out: &mut [u8]) -> Written
     requires { ⌜ Extendable lim ⌝ }
-    requires { ⌜ Normalizable lim ⌝ }
     ensures { λ r. ⌜ Meets (extended lim (now (s .entry)) (now (k .entry)) (now (out .entry))) r (now (out .exit)) ⌝ }
 {
     let inputs = read_inputs(lim, lim.literals, s, k);
     match inputs {
         Both::Refused(x) => Written::Refused(x),
-        Both::Read(held, count) => {
-            if has_sheets(held) {
-                return extend_sheets(s, k, count, out);
-            }
-            write_extension(s, k, count, out)
-        }
+        Both::Read(_, count) => write_extension(s, k, count, out),
     }
 }
 

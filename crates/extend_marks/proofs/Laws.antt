@@ -8,3 +8,4 @@ pub mod Agree
 pub mod Marks
 pub mod Members
 pub mod Rule
+pub mod Sheet

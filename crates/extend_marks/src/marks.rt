@@ -1,4 +1,4 @@
-// The marks that a program's rules add to a set, as keys in a lent slice, in rule order.
+// The marks that a file's rules add to a set, as keys in a lent slice, in rule order.
 
 use literal::Literal;
 use literal::RuleNo;
@@ -17,11 +17,12 @@ ghost use lib.ListN.{length};
 ghost use Rattle.literal.specs.Order.{key};
 ghost use Rattle.semantics.specs.Set.{eachOf};
 ghost use Rattle.semantics.specs.Rule.{Rule};
+ghost use Rattle.semantics.specs.Item.{rules};
 ghost use Rattle.record.specs.Header.{headCount};
-ghost use Rattle.record_walk.specs.Code.{Holds, recordSize, tagAt, optionsAt, Starts};
+ghost use Rattle.record_walk.specs.Code.{HoldsFile, recordSize, tagAt, optionsAt, Starts};
 ghost use Rattle.set.specs.Code.{Ascends, keySet};
 ghost use Rattle.extend_marks.specs.Marks.{derivedMarks, ruleMarks, marksFrom};
-ghost use Rattle.extend_marks.specs.Code.{Gained, Markable, Roomy};
+ghost use Rattle.extend_marks.specs.Code.{Gained, MarkableFile, sheetSize, Roomy};
 
 // Whether the option is in the set and not defeated there.
 fn is_derived(set: &[u8], count: usize, t: Tag, a: SignedAtom) -> bool
@@ -111,21 +112,41 @@ fn add_rule(
     add_options(set, count, part, keys, n)
 }
 
-// The marks of a program's rules; how many there are, with those that two rules add.
+// The bytes of the sheet record that starts with this letter; 0 for a rule's letter, whose record has no fixed size.
+fn sheet_size(letter: u8) -> usize
+    ensures { λ r. ⌜ r ≡ sheetSize letter ⌝ }
+{
+    if letter == b'O' {
+        return 6;
+    }
+    if letter == b'X' {
+        return 12;
+    }
+    0
+}
+
+// The marks of a file's rules; how many there are, with those that two rules add. Sheet records are stepped over: the rules that they
+// append are strict, and a strict rule adds no mark.
 pub fn collect_marks(s: &[u8], set: &[u8], count: usize, keys: &mut [u64]) -> usize
     requires { ⌜ 4 + 5 * count ≤ length (now set) ⌝ }
     requires { ⌜ Ascends (now set) count ⌝ }
-    requires { ⌜ Holds (Markable (length (now keys))) (now s) ⌝ }
-    ensures { λ r. ⌜ ((w : Holds (Markable (length (now (keys .entry)))) (now (s .entry))) → Gained (now (keys .entry)) (now (keys .exit)) 0 r (map key (marksFrom 1 (w .program) (keySet (now (set .entry)) count)))) ⌝ }
+    requires { ⌜ HoldsFile (MarkableFile (length (now keys))) (now s) ⌝ }
+    ensures { λ r. ⌜ ((w : HoldsFile (MarkableFile (length (now (keys .entry)))) (now (s .entry))) → Gained (now (keys .entry)) (now (keys .exit)) 0 r (map key (marksFrom 1 (rules (w .items)) (keySet (now (set .entry)) count)))) ⌝ }
 {
     let mut at: usize = 0;
     let mut number: u16 = 1;
     let mut n: usize = 0;
     while s[at] != b'E' {
         let part = &s[at..];
-        n += add_rule(set, count, RuleNo(number), part, keys, n);
-        at += record_size(part);
-        number += 1;
+        let letter = part[0];
+        let sheet = sheet_size(letter);
+        if 0 < sheet {
+            at += sheet;
+        } else {
+            n += add_rule(set, count, RuleNo(number), part, keys, n);
+            at += record_size(part);
+            number += 1;
+        }
     }
     n
 }

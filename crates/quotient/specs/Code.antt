@@ -1,22 +1,26 @@
 -- What the writers of a quotient speak of (01, "Quotient").
 -- In order: the quotient, as bytes; limits for which a quotient is made; what the passes ask of a program; a program and a set whose
--- quotient can be written, and a file and a set; the quotient, delivered.
+-- quotient can be written, and a file and a set; the quotient, delivered; a file with sheets or a program, and what is answered of it.
 -- Not here: what is left of a record, by its bytes (`quotient_rule`).
 -- Assumes nothing.
 use Prim.Native.Nat.{ℕ, _+_, _≤_, _<_}
 use mathlib.Core.Path.{_≡_}
+use mathlib.Core.Bool.{Bool, true, false}
 use mathlib.Core.List.{List, map}
 use lib.ListN.{length}
 use Rattle.literal.specs.declared.Limits.{Limits}
 use Rattle.literal.specs.declared.Literal.{Literal}
 use Rattle.semantics.specs.Set.{LiteralSet}
 use Rattle.semantics.specs.Rule.{Program}
+use Rattle.semantics.specs.Item.{expanded}
 use Rattle.semantics.specs.Meaning.{quotient}
 use Rattle.semantics.specs.Form.{mostAppended}
+use Rattle.record.specs.declared.Written.{Written}
 use Rattle.record.specs.Result.{accepted, Outcome, delivered}
 use Rattle.record.specs.Layout.{encodedProgram}
+use Rattle.record.specs.Meets.{Meets}
 use Rattle.record_walk.specs.Code.{Holds, HoldsFile}
-use Rattle.expand.specs.Code.{Meaning}
+use Rattle.expand.specs.Code.{normalBytes, Meaning}
 use Rattle.set.specs.Reading.{parsedSet}
 use Rattle.quotient.specs.Quotient.{remainderRule, quotientProgram}
 
@@ -58,3 +62,13 @@ pub record DividingFile (most : ℕ) (s k : List ℕ) (n : ℕ) : Type 0 where
 -- the quotient of a program by the set of a list, delivered
 abbrev pub deliveredQuotient : Program → List Literal → List ℕ → Outcome
 deliveredQuotient p ls out = delivered (accepted (encodedProgram (quotientProgram p ls))) out
+
+-- s holds a file with sheets, with an array of our own for its normal form, or a program; and either can be divided by the set in k
+abbrev pub Given : Bool → List ℕ → List ℕ → ℕ → Type 0
+Given true s k n = DividingFile normalBytes s k n
+Given false s k n = Dividing s k n
+
+-- the answer r and the buffer, as it is at the end, are those of the program that either means
+abbrev pub Answered : Bool → List ℕ → List ℕ → ℕ → List ℕ → Written → List ℕ → Type 0
+Answered true s k n out r end = (w : DividingFile normalBytes s k n) → Meets (deliveredQuotient (expanded (w .file .items)) (w .literals) out) r end
+Answered false s k n out r end = (w : Dividing s k n) → Meets (deliveredQuotient (w .program .program) (w .literals) out) r end

@@ -14,16 +14,15 @@ use record::Refusal;
 use record::Written;
 use record_read::read::has_sheets;
 ghost use mathlib.Core.Path.{_≡_};
-ghost use lib.ListN.{length};
-ghost use Rattle.semantics.specs.Item.{expanded};
-ghost use Rattle.expand.specs.Code.{normalBytes, Normalizable};
+ghost use mathlib.Core.Bool.{true};
+ghost use Rattle.expand.specs.Code.{Normalizable};
 ghost use Rattle.literal.specs.Limits.{source, plain};
 ghost use Rattle.record.specs.Meets.{Meets};
 ghost use Rattle.quotient.specs.Quotient.{quotiented};
-ghost use Rattle.quotient.specs.Code.{Sized, Dividing, DividingFile, deliveredQuotient};
+ghost use Rattle.quotient.specs.Code.{Sized, Dividing, deliveredQuotient, Given, Answered};
 
 // The quotient of the program that `s` holds by the set of `count` literals that `k` holds, written to the start of `out`.
-pub fn divide_program(s: &[u8], k: &[u8], count: usize, out: &mut [u8]) -> Written
+fn divide_program(s: &[u8], k: &[u8], count: usize, out: &mut [u8]) -> Written
     requires { ⌜ Dividing (now s) (now k) count ⌝ }
     ensures { λ r. ⌜ ((w : Dividing (now (s .entry)) (now (k .entry)) count) → Meets (deliveredQuotient (w .program .program) (w .literals) (now (out .entry))) r (now (out .exit))) ⌝ }
 {
@@ -49,22 +48,39 @@ fn divide(lim: Limits, s: &[u8], k: &[u8], out: &mut [u8]) -> Written
     }
 }
 
-// The quotient of the program that the file in `s` means, by way of its normal form, which is written to `normal`.
-fn divide_normal(s: &[u8], k: &[u8], count: usize, normal: &mut [u8], out: &mut [u8]) -> Written
-    requires { ⌜ DividingFile (length (now normal)) (now s) (now k) count ⌝ }
-    ensures { λ r. ⌜ ((w : DividingFile (length (now (normal .entry))) (now (s .entry)) (now (k .entry)) count) → Meets (deliveredQuotient (expanded (w .file .items)) (w .literals) (now (out .entry))) r (now (out .exit))) ⌝ }
+// The quotient of the program that `s` means by the set in `k`: `sheeted` says whether it is a file with sheets, or has the program's records
+// itself. A file with sheets is taken to its normal form in `normal`, if that is long enough, and this function goes on with it. It calls itself
+// for the compiler's sake, as `translate_meant` does (crate `translate`).
+fn divide_meant(
+    s: &[u8],
+    sheeted: bool,
+    k: &[u8],
+    count: usize,
+    normal: &mut [u8],
+    out: &mut [u8],
+) -> Written
+    requires { ⌜ Given sheeted (now s) (now k) count ⌝ }
+    ensures { λ r. ⌜ Answered sheeted (now (s .entry)) (now (k .entry)) count (now (out .entry)) r (now (out .exit)) ⌝ }
 {
-    let n = write_normal(s, normal);
-    divide_program(&normal[..n], k, count, out)
+    if !sheeted {
+        return divide_program(s, k, count, out);
+    }
+    if normal.len() < NORMAL {
+        return divide_sheets(s, k, count, out);
+    }
+    let made = write_normal(s, normal);
+    let n = made.size;
+    let mut none = [0u8; 1];
+    divide_meant(&normal[..n], made.sheeted, k, count, &mut none, out)
 }
 
-// The same, with an array for the normal form.
+// The quotient of the program that a file with sheets means, with an array for its normal form.
 fn divide_sheets(s: &[u8], k: &[u8], count: usize, out: &mut [u8]) -> Written
-    requires { ⌜ DividingFile normalBytes (now s) (now k) count ⌝ }
-    ensures { λ r. ⌜ ((w : DividingFile normalBytes (now (s .entry)) (now (k .entry)) count) → Meets (deliveredQuotient (expanded (w .file .items)) (w .literals) (now (out .entry))) r (now (out .exit))) ⌝ }
+    requires { ⌜ Given true (now s) (now k) count ⌝ }
+    ensures { λ r. ⌜ Answered true (now (s .entry)) (now (k .entry)) count (now (out .entry)) r (now (out .exit)) ⌝ }
 {
     let mut normal = [0u8; NORMAL];
-    divide_normal(s, k, count, &mut normal, out)
+    divide_meant(s, true, k, count, &mut normal, out)
 }
 
 // The quotient of the program that the file in `s` means by the set in `k`, both in a form: a file without sheets has the program's
@@ -79,7 +95,8 @@ fn divide_file(lim: Limits, s: &[u8], k: &[u8], out: &mut [u8]) -> Written
         Both::Refused(x) => Written::Refused(x),
         Both::Read(held, count) => {
             if has_sheets(held) {
-                return divide_sheets(s, k, count, out);
+                let mut none = [0u8; 1];
+                return divide_meant(s, true, k, count, &mut none, out);
             }
             divide_program(s, k, count, out)
         }

@@ -2,9 +2,10 @@
 
 use literal::Literal;
 use literal_fields::encode::encode;
+use literal_fields::order::key_of;
 use record_walk::options::option_at;
 use record_walk::options::tag_at;
-use set::member::is_member;
+use set::search::holds;
 ghost use Prim.Native.Nat.{_+_, _*_, _≤_, _<_};
 ghost use mathlib.Core.Path.{_≡_};
 ghost use lib.ListN.{length};
@@ -24,7 +25,8 @@ fn is_defeated(t: &[u8], at: usize, set: &[u8], count: usize) -> bool
 {
     let tag = tag_at(t);
     let option = option_at(t, at);
-    is_member(set, count, Literal::Defeated(tag, option))
+    let mark = Literal::Defeated(tag, option);
+    holds(set, count, key_of(mark))
 }
 
 // 1 where the option at a place is left, and 0 where it is defeated.

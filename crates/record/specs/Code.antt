@@ -1,15 +1,16 @@
 -- What the reader's functions answer, from what the definitions of `Reading` give: a function keeps a rule's length
 -- where the definition gives the rule.
--- In order: a run of literals; the kinds of head literals; one record, and what is left behind it; how many rules a file holds, and whether it holds sheet
--- records.
+-- In order: a run of literals; the kinds of head literals; one record, and what is left behind it; what the part of a file from a place on
+-- comes to; how many rules a file holds, and whether it holds sheet records.
 -- Assumes nothing.
-use Prim.Native.Nat.{ℕ, zero, suc, _+_}
+use Prim.Native.Nat.{ℕ, zero, suc, _+_, _-_}
 use mathlib.Core.Bool.{Bool, true, _&&_, _||_}
-use mathlib.Core.List.{List}
+use mathlib.Core.List.{List, [], _∷_}
 use lib.Dec.{ltb, leb}
-use lib.ListN.{getD}
+use lib.ListN.{length, getD, drop}
+use Rattle.literal.specs.declared.Limits.{Limits}
 use Rattle.literal.specs.declared.Literal.{Literal}
-use Rattle.semantics.specs.Item.{rule, override, opposition}
+use Rattle.semantics.specs.Item.{Item, rule, override, opposition}
 use Rattle.record.specs.declared.Run.{Run}
 use Rattle.record.specs.declared.Step.{Step}
 use Rattle.record.specs.declared.Held.{Held}
@@ -17,7 +18,7 @@ use Rattle.record.specs.declared.Found.{Found}
 use Rattle.record.specs.declared.Holding.{Holding}
 use Rattle.record.specs.declared.Reading.{Reading}
 use Rattle.record.specs.Result.{Result, accepted, refused}
-use Rattle.record.specs.Reading.{Entry, item, end}
+use Rattle.record.specs.Reading.{Entry, item, end, holding, itemsFrom}
 
 -- a run of literals is right, or refused
 unfoldable pub runOf : Result (List Literal) → Run
@@ -44,6 +45,23 @@ foundOf h (Step.Override size) = Found.Next size (record { rules = h .rules; ove
 foundOf h (Step.Opposition size) = Found.Next size (record { rules = h .rules; overrides = h .overrides; oppositions = h .oppositions + 1 })
 foundOf h Step.End = Found.End
 foundOf h (Step.Refused x) = Found.Refused x
+
+-- how many items are held
+abbrev pub total : Held → ℕ
+total h = h .rules + h .overrides + h .oppositions
+
+-- h with the items of a part behind it
+unfoldable pub heldOn : Held → List Item → Held
+heldOn h [] = h
+heldOn h (i ∷ is) = heldOn (holding h i) is
+
+unfoldable pub readOn : Held → Result (List Item) → Holding
+readOn h (accepted is) = Holding.All (heldOn h is)
+readOn h (refused x) = Holding.Refused x
+
+-- the part of s from `at` on, where h is held
+unfoldable pub left : Limits → List ℕ → ℕ → Held → Holding
+left F s at h = readOn h (itemsFrom F (length s + 1 - total h) (drop at s) at h)
 
 -- how many rules are held
 unfoldable pub ruleCount : Holding → Reading

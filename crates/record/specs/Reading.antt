@@ -21,8 +21,6 @@ use Rattle.semantics.specs.Rule.{Rule, strict, defeasible, Program}
 use Rattle.semantics.specs.Item.{Item, rule, override, opposition, rules, overrides, oppositions, expanded}
 use Rattle.semantics.specs.Form.{keepsCounts}
 use Rattle.record.specs.declared.Reason.the-variants.{TooLong, MarkCut, MarkWrong, HeaderCut, TooManyRules, TagWrong, TooManyLiterals, LiteralsCut, LiteralWrong, HeadWrong, EndWrong, TooManySheets, SheetCut, SheetSame}
-use Rattle.record.specs.declared.Mark.{Mark}
-use Rattle.record.specs.declared.Mark.the-variants.{RuleMark, OverrideMark, OppositionMark, EndMark, NoMark}
 use Rattle.record.specs.declared.Held.{Held}
 use Rattle.record.specs.declared.Holding.{Holding}
 use Rattle.record.specs.declared.Reading.{Reading}
@@ -126,6 +124,14 @@ unfoldable pub endAt : ℕ → List ℕ → Result Entry
 endAt n t =
     refuseIf (ltb (length t) 4) (refusal HeaderCut 0)
     (refuseIf (not (eqb (numberAt t 2) n && eqb (length t) 4)) (refusal EndWrong 0) (accepted end))
+
+-- the mark at a record's start: of a rule, which is defeasible or not; of a sheet record; of the end; none of the form's
+pub data Mark : Type 0 where
+  RuleMark : Bool → Mark
+  OverrideMark : Mark
+  OppositionMark : Mark
+  EndMark : Mark
+  NoMark : Mark
 
 -- the part starts with this letter's mark
 unfoldable pub marked : ℕ → List ℕ → Bool

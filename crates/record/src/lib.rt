@@ -75,18 +75,6 @@ pub enum Holding {
     Refused(Refusal),
 }
 
-// The mark at a record's start.
-pub enum Mark {
-    // S: or D:, the latter of a defeasible rule.
-    RuleMark(bool),
-    // O: and X:
-    OverrideMark,
-    OppositionMark,
-    EndMark,
-    // None of the form's.
-    NoMark,
-}
-
 // What reading a run of literals finds.
 pub enum Run {
     Right,

@@ -1,7 +1,13 @@
-// Reading a file: one record after another, each in its own part of the slice.
+// Reading a file: one record after another, each in its own part of the slice. Rules are read in runs: the loop over them knows nothing of
+// sheet records, which are few.
 
+use crate::Front;
+use crate::Rules;
+use crate::Stop;
+use crate::sheet::read_sheet;
 use crate::step::hold;
-use crate::step::read_record;
+use crate::step::read_body;
+use crate::step::read_front;
 use literal::Limits;
 use literal::form::Plain;
 use literal::form::Source;
@@ -11,10 +17,81 @@ use record::Holding;
 use record::Reading;
 use record::Reason;
 use record::Refusal;
+use record::Step;
+ghost use Prim.Native.Nat.{_*_, _≤_};
 ghost use mathlib.Core.Path.{_≡_};
+ghost use lib.ListN.{length};
 ghost use Rattle.literal.specs.Limits.{source, plain};
-ghost use Rattle.record.specs.Reading.{items, holdingOf, reading};
-ghost use Rattle.record.specs.Code.{ruleCount, sheeted};
+ghost use Rattle.record.specs.Reading.{items, recordAt, holdingOf, reading};
+ghost use Rattle.record.specs.Code.{stepOf, total, ruleCount, sheeted};
+ghost use Rattle.record_read.specs.Code.{StopAt, withRules, Stopped};
+
+// The rules from a place on, where `held` came before, up to the first record that is no right rule's.
+fn read_rules(lim: Limits, s: &[u8], from: usize, held: Held) -> Rules
+    requires { ⌜ from ≤ length (now s) ⌝ }
+    requires { ⌜ 6 * total held ≤ from ⌝ }
+    ensures { λ r. ⌜ Stopped lim (now (s .entry)) from held r ⌝ }
+{
+    let mut at = from;
+    let mut rules = held.rules;
+    loop {
+        let t = &s[at..];
+        let front = read_front(lim, t, rules);
+        match front {
+            Front::Told(step) => {
+                return Rules {
+                    at,
+                    rules,
+                    stop: Stop::Told(step),
+                };
+            }
+            Front::Other => {
+                return Rules {
+                    at,
+                    rules,
+                    stop: Stop::Other,
+                };
+            }
+            Front::Literals(defeasible) => {
+                let step = read_body(lim, defeasible, t, t[4], t[5], t[6]);
+                if let Step::Rule(size) = step {
+                    at += size;
+                    rules += 1;
+                } else {
+                    return Rules {
+                        at,
+                        rules,
+                        stop: Stop::Told(step),
+                    };
+                }
+            }
+        }
+    }
+}
+
+// What the record that ends a run of rules comes to, where `held` came before.
+fn read_stop(lim: Limits, t: &[u8], held: Held, stop: Stop) -> Step
+    requires { ⌜ StopAt lim (now t) (recordAt lim held (now t)) stop ⌝ }
+    ensures { λ r. ⌜ r ≡ stepOf (recordAt lim held (now (t .entry))) ⌝ }
+{
+    match stop {
+        Stop::Told(step) => step,
+        Stop::Other => read_sheet(lim, t, held),
+    }
+}
+
+// What is held, with so many rules.
+fn with_rules(held: Held, rules: usize) -> Held
+    ensures { λ r. ⌜ r ≡ withRules held rules ⌝ }
+{
+    let overrides = held.overrides;
+    let oppositions = held.oppositions;
+    Held {
+        rules,
+        overrides,
+        oppositions,
+    }
+}
 
 // A file's items: reading goes on with the part behind the record just read.
 pub fn read_items(lim: Limits, s: &[u8]) -> Holding
@@ -33,19 +110,23 @@ pub fn read_items(lim: Limits, s: &[u8]) -> Holding
         oppositions: 0,
     };
     loop {
-        let step = read_record(lim, &s[at..], held);
-        let found = hold(held, step);
+        let run = read_rules(lim, s, at, held);
+        let place = run.at;
+        let passed = with_rules(held, run.rules);
+        let stop = run.stop;
+        let step = read_stop(lim, &s[place..], passed, stop);
+        let found = hold(passed, step);
         match found {
             Found::Next(size, more) => {
-                at += size;
+                at = place + size;
                 held = more;
             }
-            Found::End => return Holding::All(held),
+            Found::End => return Holding::All(passed),
             Found::Refused(x) => {
                 let reason = x.reason;
                 return Holding::Refused(Refusal {
                     reason,
-                    place: at + x.place,
+                    place: place + x.place,
                 });
             }
         }
@@ -53,7 +134,7 @@ pub fn read_items(lim: Limits, s: &[u8]) -> Holding
 }
 
 // How many rules a file holds.
-pub fn count_rules(file: Holding) -> Reading
+fn count_rules(file: Holding) -> Reading
     ensures { λ r. ⌜ r ≡ ruleCount file ⌝ }
 {
     match file {
@@ -73,7 +154,7 @@ pub fn has_sheets(held: Held) -> bool
 }
 
 // The rules that are written.
-pub fn read(lim: Limits, s: &[u8]) -> Reading
+fn read(lim: Limits, s: &[u8]) -> Reading
     ensures { λ r. ⌜ r ≡ reading lim (now (s .entry)) ⌝ }
 {
     count_rules(read_items(lim, s))

@@ -1,4 +1,5 @@
-// One record of a preference sheet, in its own part of the slice: document 02's tests in their order.
+// One record that is no rule's and not the end, in its own part of the slice: a preference sheet's, by document 02's tests in their order,
+// or none of the form's.
 
 use crate::step::refuse;
 use buffer::get::get_number;
@@ -7,6 +8,7 @@ use literal::Tag;
 use literal_decode::range::is_tag;
 use literal_decode::valid::is_literal;
 use literal_fields::field::get_tag;
+use record::Held;
 use record::Reason;
 use record::Refusal;
 use record::Step;
@@ -16,9 +18,9 @@ ghost use mathlib.Core.Bool.{_&&_};
 ghost use lib.Dec.{leb};
 ghost use lib.ListN.{length};
 ghost use Rattle.literal.specs.Literal.{decoded, inRange};
-ghost use Rattle.record.specs.Reading.{overrideAt, oppositionAt};
+ghost use Rattle.record.specs.Reading.{overrideAt, oppositionAt, recordAt};
 ghost use Rattle.record.specs.Code.{stepOf};
-ghost use Rattle.record_read.specs.Code.{isSigned, sameFields, pairStep};
+ghost use Rattle.record_read.specs.Code.{isSigned, sameFields, pairStep, OtherLeft};
 
 // Whether the form has both tags.
 fn are_tags(lim: Limits, upper: Tag, lower: Tag) -> bool
@@ -82,7 +84,7 @@ fn judge_pair(one: bool, other: bool, same: bool) -> Step
 }
 
 // An override, where `held` came before.
-pub fn read_override(lim: Limits, t: &[u8], held: usize) -> Step
+fn read_override(lim: Limits, t: &[u8], held: usize) -> Step
     ensures { λ r. ⌜ r ≡ stepOf (overrideAt lim held (now (t .entry))) ⌝ }
 {
     if is_full(lim, held) {
@@ -103,7 +105,7 @@ pub fn read_override(lim: Limits, t: &[u8], held: usize) -> Step
 }
 
 // An opposition, where `held` came before.
-pub fn read_opposition(lim: Limits, t: &[u8], held: usize) -> Step
+fn read_opposition(lim: Limits, t: &[u8], held: usize) -> Step
     ensures { λ r. ⌜ r ≡ stepOf (oppositionAt lim held (now (t .entry))) ⌝ }
 {
     if is_full(lim, held) {
@@ -115,4 +117,23 @@ pub fn read_opposition(lim: Limits, t: &[u8], held: usize) -> Step
     let one = is_option(lim, &t[2..]);
     let other = is_option(lim, &t[7..]);
     judge_pair(one, other, is_pair_same(t))
+}
+
+// A record that is no rule's and not the end, where `held` came before: 3 where the form has no such mark.
+pub fn read_sheet(lim: Limits, t: &[u8], held: Held) -> Step
+    requires { ⌜ OtherLeft lim (now t) ⌝ }
+    ensures { λ r. ⌜ r ≡ stepOf (recordAt lim held (now (t .entry))) ⌝ }
+{
+    if t[1] != b':' {
+        return refuse(Reason::MarkWrong);
+    }
+    if lim.sheets == 0 {
+        return refuse(Reason::MarkWrong);
+    }
+    let letter = t[0];
+    match letter {
+        b'O' => read_override(lim, t, held.overrides),
+        b'X' => read_opposition(lim, t, held.oppositions),
+        _ => refuse(Reason::MarkWrong),
+    }
 }

@@ -1,8 +1,7 @@
 // One record of a file, in its own part of the slice: document 01's tests in their order.
 
 use crate::Front;
-use crate::sheet::read_opposition;
-use crate::sheet::read_override;
+use crate::Opening;
 use buffer::get::get_number;
 use literal::Limits;
 use literal::Tag;
@@ -11,7 +10,6 @@ use literal_decode::valid::is_literal;
 use literal_fields::field::get_tag;
 use record::Found;
 use record::Held;
-use record::Mark;
 use record::Reason;
 use record::Refusal;
 use record::Run;
@@ -24,7 +22,7 @@ ghost use Rattle.semantics.specs.Form.{keepsCounts};
 ghost use Rattle.record.specs.Refusal.{refusal};
 ghost use Rattle.record.specs.Reading.{literalsAt, markAt, tagRight, bodyAt, ruleAt, endAt, recordAt};
 ghost use Rattle.record.specs.Code.{runOf, signedKinds, stepOf, foundOf};
-ghost use Rattle.record_read.specs.Code.{FrontAt};
+ghost use Rattle.record_read.specs.Code.{opening, FrontAt};
 
 // A refusal at the record's first byte.
 pub fn refuse(reason: Reason) -> Step
@@ -33,40 +31,26 @@ pub fn refuse(reason: Reason) -> Step
     Step::Refused(Refusal { reason, place: 0 })
 }
 
-// The mark of the form that the record starts with.
-fn mark_of(lim: Limits, t: &[u8]) -> Mark
+// How the record starts: the letters of sheet records are not asked for here, so that few are.
+fn open_record(lim: Limits, t: &[u8]) -> Opening
     requires { ⌜ 2 ≤ length (now t) ⌝ }
-    ensures { λ r. ⌜ r ≡ markAt lim (now (t .entry)) ⌝ }
+    ensures { λ r. ⌜ r ≡ opening (markAt lim (now (t .entry))) ⌝ }
 {
     if t[1] != b':' {
-        return Mark::NoMark;
+        return Opening::Other;
     }
     let letter = t[0];
     match letter {
-        b'S' => Mark::RuleMark(false),
+        b'S' => Opening::Rule(false),
         b'D' => {
             if lim.defeasible {
-                Mark::RuleMark(true)
+                Opening::Rule(true)
             } else {
-                Mark::NoMark
+                Opening::Other
             }
         }
-        b'E' => Mark::EndMark,
-        b'O' => {
-            if 0 < lim.sheets {
-                Mark::OverrideMark
-            } else {
-                Mark::NoMark
-            }
-        }
-        b'X' => {
-            if 0 < lim.sheets {
-                Mark::OppositionMark
-            } else {
-                Mark::NoMark
-            }
-        }
-        _ => Mark::NoMark,
+        b'E' => Opening::End,
+        _ => Opening::Other,
     }
 }
 
@@ -132,7 +116,14 @@ fn is_head_signed(t: &[u8], heads: usize) -> bool
 }
 
 // A rule's record whose header is right: its literals, then what a defeasible head may hold.
-fn read_body(lim: Limits, defeasible: bool, t: &[u8], heads: u8, positives: u8, nafs: u8) -> Step
+pub fn read_body(
+    lim: Limits,
+    defeasible: bool,
+    t: &[u8],
+    heads: u8,
+    positives: u8,
+    nafs: u8,
+) -> Step
     ensures { λ r. ⌜ r ≡ stepOf (bodyAt lim defeasible (now (t .entry)) heads positives nafs) ⌝ }
 {
     let count = heads as usize + positives as usize + nafs as usize;
@@ -193,31 +184,19 @@ fn read_end(t: &[u8], held: usize) -> Step
     Step::End
 }
 
-// What stands before a record's literals, where `held` came before: what the record is, or that its literals are to be read.
-pub fn read_front(lim: Limits, t: &[u8], held: Held) -> Front
-    ensures { λ r. ⌜ FrontAt lim (now (t .entry)) (recordAt lim held (now (t .entry))) r ⌝ }
+// What stands before a record's literals, where `held` rules came before: what the record is, that its literals are to be read, or that
+// it is no rule's and not the end.
+pub fn read_front(lim: Limits, t: &[u8], held: usize) -> Front
+    ensures { λ r. ⌜ ((h : Held) → h .rules ≡ held → FrontAt lim (now (t .entry)) (recordAt lim h (now (t .entry))) r) ⌝ }
 {
     if t.len() < 2 {
         return Front::Told(refuse(Reason::MarkCut));
     }
-    let mark = mark_of(lim, t);
-    match mark {
-        Mark::RuleMark(defeasible) => read_header(lim, defeasible, t, held.rules),
-        Mark::OverrideMark => Front::Told(read_override(lim, t, held.overrides)),
-        Mark::OppositionMark => Front::Told(read_opposition(lim, t, held.oppositions)),
-        Mark::EndMark => Front::Told(read_end(t, held.rules)),
-        Mark::NoMark => Front::Told(refuse(Reason::MarkWrong)),
-    }
-}
-
-// One record, at the part's start, where `held` came before.
-pub fn read_record(lim: Limits, t: &[u8], held: Held) -> Step
-    ensures { λ r. ⌜ r ≡ stepOf (recordAt lim held (now (t .entry))) ⌝ }
-{
-    let front = read_front(lim, t, held);
-    match front {
-        Front::Told(step) => step,
-        Front::Literals(defeasible) => read_body(lim, defeasible, t, t[4], t[5], t[6]),
+    let opening = open_record(lim, t);
+    match opening {
+        Opening::Rule(defeasible) => read_header(lim, defeasible, t, held),
+        Opening::End => Front::Told(read_end(t, held)),
+        Opening::Other => Front::Other,
     }
 }
 

@@ -12,17 +12,16 @@ use record::Refusal;
 use record::Written;
 use record_read::read::has_sheets;
 use record_read::read::read_items;
-ghost use lib.ListN.{length};
+ghost use mathlib.Core.Bool.{true};
 ghost use Rattle.literal.specs.Limits.{source};
 ghost use Rattle.record.specs.Meets.{Meets};
-ghost use Rattle.semantics.specs.Item.{expanded};
-ghost use Rattle.record_walk.specs.Code.{Holds, HoldsFile};
-ghost use Rattle.expand.specs.Code.{normalBytes, Normalizable, Meaning};
-ghost use Rattle.translate.specs.Code.{Translatable, Writable, translationOf};
+ghost use Rattle.record_walk.specs.Code.{Holds};
+ghost use Rattle.expand.specs.Code.{Normalizable};
+ghost use Rattle.translate.specs.Code.{Translatable, Writable, translationOf, Given, Answered};
 ghost use Rattle.translate.specs.Translate.{translated};
 
 // The translation of the program that `s` holds, written to the start of `out`.
-pub fn write_translation(s: &[u8], out: &mut [u8]) -> Written
+fn write_translation(s: &[u8], out: &mut [u8]) -> Written
     requires { ⌜ Holds Translatable (now s) ⌝ }
     ensures { λ r. ⌜ ((w : Holds Translatable (now (s .entry))) → Meets (translationOf (w .program) (now (out .entry))) r (now (out .exit))) ⌝ }
 {
@@ -37,22 +36,33 @@ pub fn write_translation(s: &[u8], out: &mut [u8]) -> Written
     Written::Length(n)
 }
 
-// The translation of the program that the file in `s` means, by way of its normal form, which is written to `normal`.
-fn translate_normal(s: &[u8], normal: &mut [u8], out: &mut [u8]) -> Written
-    requires { ⌜ HoldsFile (Meaning Translatable (length (now normal))) (now s) ⌝ }
-    ensures { λ r. ⌜ ((w : HoldsFile (Meaning Translatable (length (now (normal .entry)))) (now (s .entry))) → Meets (translationOf (expanded (w .items)) (now (out .entry))) r (now (out .exit))) ⌝ }
+// The translation of the program that `s` means: `sheeted` says whether it is a file with sheets, or has the program's records itself. A file
+// with sheets is taken to its normal form in `normal`, if that is long enough, and this function goes on with it. It calls itself for the
+// compiler's sake, which never makes such a function part of its caller, nor `translate_sheets` part of this one: so sources without sheets have
+// no array in their frame.
+fn translate_meant(s: &[u8], sheeted: bool, normal: &mut [u8], out: &mut [u8]) -> Written
+    requires { ⌜ Given sheeted (now s) ⌝ }
+    ensures { λ r. ⌜ Answered sheeted (now (s .entry)) (now (out .entry)) r (now (out .exit)) ⌝ }
 {
-    let n = write_normal(s, normal);
-    write_translation(&normal[..n], out)
+    if !sheeted {
+        return write_translation(s, out);
+    }
+    if normal.len() < NORMAL {
+        return translate_sheets(s, out);
+    }
+    let made = write_normal(s, normal);
+    let n = made.size;
+    let mut none = [0u8; 1];
+    translate_meant(&normal[..n], made.sheeted, &mut none, out)
 }
 
-// The same, with an array for the normal form.
+// The translation of the program that a file with sheets means, with an array for its normal form.
 fn translate_sheets(s: &[u8], out: &mut [u8]) -> Written
-    requires { ⌜ HoldsFile (Meaning Translatable normalBytes) (now s) ⌝ }
-    ensures { λ r. ⌜ ((w : HoldsFile (Meaning Translatable normalBytes) (now (s .entry))) → Meets (translationOf (expanded (w .items)) (now (out .entry))) r (now (out .exit))) ⌝ }
+    requires { ⌜ Given true (now s) ⌝ }
+    ensures { λ r. ⌜ Answered true (now (s .entry)) (now (out .entry)) r (now (out .exit)) ⌝ }
 {
     let mut normal = [0u8; NORMAL];
-    translate_normal(s, &mut normal, out)
+    translate_meant(s, true, &mut normal, out)
 }
 
 // The translation of the program that the file in `s` means in a form: a file without sheets has the program's records itself.
@@ -66,7 +76,8 @@ fn translate(lim: Limits, s: &[u8], out: &mut [u8]) -> Written
         Holding::Refused(x) => Written::Refused(x),
         Holding::All(held) => {
             if has_sheets(held) {
-                return translate_sheets(s, out);
+                let mut none = [0u8; 1];
+                return translate_meant(s, true, &mut none, out);
             }
             write_translation(s, out)
         }

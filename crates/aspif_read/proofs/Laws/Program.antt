@@ -25,9 +25,9 @@ use Rattle.record.specs.Layout.{encodedEnd, encodedItem}
 use Rattle.record.specs.Refusal.{refusal, shifted}
 use Rattle.record.specs.Result.{accepted}
 use Rattle.record.specs.Reading.{item, end, recordAt, nothing, holding, items, holdingOf, reading}
-use Rattle.record.specs.Code.{stepOf, foundOf, ruleCount}
+use Rattle.record.specs.Code.{stepOf, foundOf, total, left, ruleCount}
 use Rattle.record.proofs.Laws.Places.{found-place}
-use Rattle.record.proofs.Laws.Program.{total, left, items-long, items-left, left-next, left-end, left-refused, found-next, found-end, found-size, found-total, rules-counted}
+use Rattle.record.proofs.Laws.Program.{items-long, items-left, left-next, left-end, left-refused, found-next, found-end, found-size, found-total, rules-counted}
 use Rattle.record.proofs.Laws.Sound.{Fitting, ItemRead, EntryItem, record-sound}
 use Rattle.record_walk.specs.Code.{Holds, Starts}
 use Rattle.record_walk.proofs.Laws.Fields.{strict-fields, defeasible-fields}

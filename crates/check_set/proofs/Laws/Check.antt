@@ -1,11 +1,11 @@
 -- Laws of the check: its outcome, from what reading the program and the set answers, the room that there is, and the verdict.
 -- In order: a program and a set that are held: 9, and the verdict; that they can be checked; a refusal of the program or the set; the
--- program that is meant; both, as read.
+-- program that is meant; both, as read; what is given and answered, with sheets or without; room for the clauses of a file's program.
 -- Assumes nothing.
 use Prim.Native.Nat.{ℕ, _≤_, _<_}
 use native.Mathlib.Omega.{arith}
 use mathlib.Core.Path.{_≡_, sym, subst}
-use mathlib.Core.Bool.{false}
+use mathlib.Core.Bool.{Bool, false}
 use mathlib.Core.List.{List}
 use lib.ListN.{length, take}
 use Rattle.buffer.specs.Bytes.{Bytes}
@@ -28,7 +28,7 @@ use Rattle.record.proofs.Laws.Reading.{items-parsed}
 use Rattle.record.proofs.Laws.Meant.{items-expanded, held-keeps}
 use Rattle.record_walk.specs.Code.{HoldsFile}
 use Rattle.expand.specs.Code.{Expandable, normalBytes, Normalizable, Normal}
-use Rattle.expand.proofs.Laws.File.{file-means, normal-holds}
+use Rattle.expand.proofs.Laws.File.{means-wider, file-means, normal-holds}
 use Rattle.set.specs.Reading.{parsedSet}
 use Rattle.set.proofs.Laws.Reading.{keeps-set-most, parsed-set-sound}
 use Rattle.inputs.specs.declared.Both.{Both}
@@ -37,7 +37,7 @@ use Rattle.check_clauses.specs.Code.{Clausable}
 use Rattle.check_set.specs.declared.Verdict.{Verdict}
 use Rattle.check_set.specs.declared.Check.{Check}
 use Rattle.check_set.specs.Check.{foundOf, found, checkedOf, checked}
-use Rattle.check_set.specs.Code.{Judgeable, Judged, Checkable, Checking, CheckingFile, expandedRules, CheckableFile, checkOf}
+use Rattle.check_set.specs.Code.{Judgeable, Judged, Checkable, Checking, CheckingFile, expandedRules, CheckableFile, checkOf, Given, Lent, Answered}
 use Rattle.check_set.specs.Meets.{MeetsCheck}
 use Rattle.check_set.proofs.Laws.Found.{found-short, found-finding, found-refused, found-read, meets-refusal, meets-finding}
 
@@ -151,6 +151,39 @@ module _ {bytes : ℕ} {s k : List ℕ} {c b h : ℕ} (w : CheckingFile bytes s 
         count = w .count;
         few = w .few;
       }
+
+-- more bytes are enough too
+unfoldable pub checking-wider : {most room : ℕ} {s k : List ℕ} {c b h : ℕ} → CheckingFile most s k c b h → most ≤ room → CheckingFile room s k c b h
+checking-wider w more =
+    record {
+      file = means-wider (w .file) more;
+      form = w .form;
+      most = w .most;
+      literals = w .literals;
+      members = w .members;
+      count = w .count;
+      few = w .few;
+    }
+
+-- arrays of those lengths were lent
+pub checking-lent : {s k : List ℕ} {c b h m : ℕ} → Lent m b h → normalBytes ≤ m → Checking s k c expandedRules expandedRules → Checking s k c b h
+checking-lent {s} {k} {c} {b} {h} lent long w =
+    let same = lent long in
+    subst (λ (x : ℕ). Checking s k c x h) (sym (same .0)) (subst (λ (x : ℕ). Checking s k c expandedRules x) (sym (same .1)) w)
+
+pub answered-lent : (s k : List ℕ) (c : ℕ) {b h m : ℕ} (out : List ℕ) (r : Check) (end : List ℕ) → Lent m b h → normalBytes ≤ m
+    → Answered false s k c b h out r end → Answered false s k c expandedRules expandedRules out r end
+answered-lent s k c {b} {h} out r end lent long a =
+    let same = lent long in
+    subst (λ (x : ℕ). Answered false s k c expandedRules x out r end) (same .1) (subst (λ (x : ℕ). Answered false s k c x h out r end) (same .0) a)
+
+-- what is given and what is answered, where it is known whether there are sheets
+pub given-as : {x y : Bool} (s k : List ℕ) (n b h : ℕ) → x ≡ y → Given x s k n b h → Given y s k n b h
+given-as s k n b h e w = subst (λ (x : Bool). Given x s k n b h) e w
+
+pub answered-as : {x y : Bool} (s k : List ℕ) (n b h : ℕ) (out : List ℕ) (r : Check) (end : List ℕ) → x ≡ y → Answered y s k n b h out r end
+    → Answered x s k n b h out r end
+answered-as s k n b h out r end e m = subst (λ (x : Bool). Answered x s k n b h out r end) (sym e) m
 
 -- room for the clauses of a program that a file means: of its written rules where it has no sheets, of all elsewhere
 module _ (F : Limits) {b h : ℕ} (c : CheckableFile F b h) (s : List ℕ) (is : List Item) (bytes : Bytes s) (read : items F s ≡ accepted is) where

@@ -41,6 +41,29 @@ module _ (F : Limits) (ok : Normalizable F) (s : List ℕ) (is : List Item) (byt
   file-means asked =
       record { items = is; bytes = items-read F s is bytes read .0; asked = record { expandable = expandable normalBytes (omega arith); asked = asked } }
 
+-- more bytes are enough too
+unfoldable pub means-wider : {P : Program → Type 0} {most room : ℕ} {s : List ℕ} → HoldsFile (Meaning P most) s → most ≤ room → HoldsFile (Meaning P room) s
+means-wider w more =
+    let e = w .asked .expandable in
+    record {
+      items = w .items;
+      bytes = w .bytes;
+      asked =
+          record {
+            expandable =
+                record {
+                  form = e .form;
+                  keeps = e .keeps;
+                  sheets = e .sheets;
+                  tags = e .tags;
+                  atoms = e .atoms;
+                  room = omega (arith, e .room, more);
+                  rules = e .rules;
+                };
+            asked = w .asked .asked;
+          };
+    }
+
 module _ {P : Program → Type 0} {most : ℕ} {s : List ℕ} (w : HoldsFile (Meaning P most) s) where
   -- what expanding asks
   pub means-expandable : HoldsFile (Expandable most) s

@@ -19,6 +19,7 @@ use Rattle.literal.specs.Literal.{encoded}
 use Rattle.semantics.specs.Rule.{Rule, Program}
 use Rattle.semantics.specs.Expansion.{Override, Opposition}
 use Rattle.semantics.specs.Item.{Item, rule, override, opposition, rules, overrides, oppositions}
+use Rattle.semantics.proofs.Laws.Expansion.{rules-append}
 use Rattle.record.specs.Header.{overrideLetter, oppositionLetter, letterOf}
 use Rattle.record.specs.Layout.{encodedLiterals, encodedRule, encodedRules, encodedItem, encodedOverride, encodedOpposition}
 use Rattle.record.proofs.Laws.Layout.{length-encoded-rule, encoded-rules-append}
@@ -31,14 +32,7 @@ use Rattle.expand_tables.specs.Code.{Tables, Pairs, Overridden, Opposed}
 use Rattle.expand_tables.proofs.Laws.Added.{each-pair-one}
 use Rattle.expand_collect.specs.Code.{State, state, Room, Collected, Collects}
 
--- the rules, overrides and oppositions of items one behind the other
-pub rules-append : (is js : List Item) → rules (is ++ js) ≡ rules is ++ rules js
-unfolding rules
-rules-append [] js = refl
-rules-append (rule r ∷ is) js = ap (λ (p : Program). r ∷ p) (rules-append is js)
-rules-append (override o ∷ is) js = rules-append is js
-rules-append (opposition x ∷ is) js = rules-append is js
-
+-- the overrides and oppositions of items one behind the other
 pub overrides-append : (is js : List Item) → overrides (is ++ js) ≡ overrides is ++ overrides js
 unfolding overrides
 overrides-append [] js = refl

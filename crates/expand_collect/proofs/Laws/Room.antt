@@ -14,6 +14,7 @@ use Rattle.semantics.specs.Rule.{Rule, Program}
 use Rattle.semantics.specs.Expansion.{Override, Opposition}
 use Rattle.semantics.specs.Item.{Item, rule, override, opposition, rules, overrides, oppositions}
 use Rattle.semantics.proofs.Laws.Tests.{first, second, along, all-append}
+use Rattle.semantics.proofs.Laws.Expansion.{rules-append}
 use Rattle.record.specs.Header.{overrideLetter, oppositionLetter, letterOf}
 use Rattle.record.specs.Layout.{encodedRule, encodedRules, encodedItem}
 use Rattle.record.proofs.Laws.Layout.{length-encoded-rule, encoded-rules-append}
@@ -25,7 +26,7 @@ use Rattle.expand_tables.specs.Code.{placeOf, Tables}
 use Rattle.expand_tables.proofs.Laws.Added.{length-each-pair}
 use Rattle.expand_tables.proofs.Laws.Update.{pairs-none}
 use Rattle.expand_collect.specs.Code.{State, state, Room, Collected, OverrideFits, OppositionFits, RuleFits, Collectable, placedItem, Collecting}
-use Rattle.expand_collect.proofs.Laws.Collect.{rules-append, overrides-append, oppositions-append, tags-same, options-same}
+use Rattle.expand_collect.proofs.Laws.Collect.{overrides-append, oppositions-append, tags-same, options-same}
 
 -- an item among others, which have room
 module _ {out₀ : List ℕ} (r : Room) (is gone behind : List Item) (d : State) (t : List ℕ) (asked : Collecting r is) (c : Collected out₀ gone d)

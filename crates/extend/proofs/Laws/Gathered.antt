@@ -4,8 +4,9 @@
 -- Assumes nothing.
 use Prim.Native.Nat.{ℕ, _+_, _*_, _<_}
 use native.Mathlib.Omega.{arith}
-use mathlib.Core.Path.{_≡_, refl, sym, _∙_, ap, ap₂}
+use mathlib.Core.Path.{_≡_, sym, _∙_, ap, ap₂}
 use mathlib.Core.List.{List, _++_, map, append-assoc}
+use lib.Dec.{T}
 use lib.ListN.{length, take, drop, length-append, length-map, length-take}
 use lib.Seq.{take-all, take-append-le, length-front}
 use Rattle.buffer.specs.Bytes.{Bytes}
@@ -15,13 +16,13 @@ use Rattle.literal.specs.Order.{key, sorted}
 use Rattle.literal.proofs.Laws.Literal.{Fits}
 use Rattle.semantics.specs.Set.{LiteralSet, setOf}
 use Rattle.semantics.specs.Rule.{Program}
+use Rattle.semantics.specs.Form.{keepsRules}
 use Rattle.semantics.proofs.Laws.Tests.{Each}
 use Rattle.semantics.proofs.Laws.Agree.{Speaks}
-use Rattle.semantics.proofs.Laws.Expanded.{Expanded, expanded-few}
+use Rattle.semantics.proofs.Laws.Form.{keeps-count}
 use Rattle.record.specs.Result.{accepted}
-use Rattle.record.specs.Layout.{encodedLiterals, encodedProgram}
+use Rattle.record.specs.Layout.{encodedLiterals}
 use Rattle.record.proofs.Laws.Layout.{encoded-literals-append, length-encoded-literals}
-use Rattle.record.proofs.Laws.Fit.{program-fits}
 use Rattle.set.specs.Layout.{encodedSet}
 use Rattle.set.specs.Reading.{parsedSet}
 use Rattle.set.specs.Code.{keySet, setHeader}
@@ -36,7 +37,7 @@ use Rattle.extend_marks.specs.Marks.{marksFrom}
 use Rattle.extend_marks.specs.Code.{Gained, Markable}
 use Rattle.extend_marks.proofs.Laws.Gained.{gained-front}
 use Rattle.extend_marks.proofs.Laws.Agree.{marks-same}
-use Rattle.extend_marks.proofs.Laws.Expanded.{expanded-room}
+use Rattle.extend_marks.proofs.Laws.Count.{written-room}
 use Rattle.extend.specs.Extend.{extensionList}
 use Rattle.extend.specs.Code.{most, Extendable, joined}
 use Rattle.extend.proofs.Laws.Sorted.{keyBytes-sorted, fitting-keys}
@@ -52,20 +53,17 @@ gained-sorted {d} {e} {f} {n} {r} g s =
       same = length-front e f n (s .same) ∙ g .same;
     }
 
--- a program within the limits, with the rules that sheets append to it: its marks can be collected
-pub markable : (F : Limits) → Extendable F → (p : Program) → Expanded F p → Markable most p
-markable F ok p e =
+-- a program within the limits: its marks can be collected
+pub markable : (F : Limits) → Extendable F → (p : Program) → T (keepsRules F p) → Markable most p
+markable F ok p k =
     record {
-      short = omega (arith, expanded-few F p e, ok .rules);
-      fits = omega (arith, expanded-room F p e (ok .appended .heads), ok .marks);
+      short = omega (arith, keeps-count F p k, ok .rules);
+      fits = omega (arith, written-room F (ok .appended .heads) p k, ok .marks);
     }
 
--- a program by its bytes
-module _ (s : List ℕ) (bytes : Bytes s) (p : Program) (e : s ≡ encodedProgram p) (short : length p < 65535) where
-  -- the fields of the marks fit two bytes
-  spoken : Each (Speaks Fits) p
-  spoken = program-fits s p bytes e
-
+-- a program that speaks of literals whose fields fit two bytes
+module _ (p : Program) (spoken : Each (Speaks Fits) p) (short : length p < 65535) where
+  -- the fields of the marks do too
   narrow-marks : (u : LiteralSet) → Each Fits (marksFrom 1 p u)
   narrow-marks u = marks-fit u 1 p (omega arith) spoken
 

@@ -20,12 +20,13 @@ use Rattle.semantics.proofs.Laws.Tests.{Each, all-intro, all-mem, along}
 use Rattle.semantics.proofs.Laws.Agree.{Speaks}
 use Rattle.semantics.proofs.Laws.Set.{set-of-mem, mem-set-of}
 use Rattle.semantics.proofs.Laws.Form.{takes-source, Covers, extension-within}
-use Rattle.semantics.proofs.Laws.Expanded.{Expanded, expanded-each, expanded-numbered}
+use Rattle.semantics.proofs.Laws.Expanded.{Expanded, expanded-each, expanded-few, expanded-numbered}
 use Rattle.set.specs.Layout.{keepsSet}
 use Rattle.set.proofs.Laws.Reading.{keeps-set, keeps-set-ascending, keeps-set-taken, keeps-set-most}
 use Rattle.keys.proofs.Laws.Literals.{length-sorted}
 use Rattle.extend_marks.specs.Marks.{marksFrom}
 use Rattle.extend_marks.proofs.Laws.Count.{length-program}
+use Rattle.extend_marks.proofs.Laws.Expanded.{marks-written}
 use Rattle.extend.specs.Extend.{extensionList}
 use Rattle.extend.specs.Code.{most, Extendable}
 use Rattle.extend.proofs.Laws.Gathered.{markable}
@@ -37,7 +38,14 @@ module _ (F : Limits) (ok : Extendable F) (p : Program) (e : Expanded F p) where
   unfolding extensionList
   length-extension ls =
       let ms = marksFrom 1 p (setOf ls) in
-      omega (arith, length-append ls (sorted ms), length-sorted ms, length-program (setOf ls) 1 p, markable F ok p e .fits)
+      omega (
+        arith,
+        length-append ls (sorted ms),
+        length-sorted ms,
+        ap length (marks-written (setOf ls) F p e),
+        length-program (setOf ls) 1 (e .written),
+        markable F ok (e .written) (e .keeps) .fits,
+      )
 
   -- the list is a set within the limits of a form that covers F
   pub extension-keeps : Each (Speaks Fits) p → (G : Limits) → Covers F G → mostKind (F .kinds) ≤ 3 → F .literals + most ≤ G .literals → (ls : List Literal)
@@ -49,7 +57,7 @@ module _ (F : Limits) (ok : Extendable F) (p : Program) (e : Expanded F p) where
       (λ l y. takes-source F kinds l (inside l y)) inside in
       let size = length-extension ls in
       let count = keeps-set-most F (F .literals) ls h in
-      let same = extension-list p (omega (arith, markable F ok p e .short)) fit ls in
+      let same = extension-list p (omega (arith, expanded-few F p e, ok .rules)) fit ls in
       keeps-set G (G .literals) (extensionList p ls) (extension-ascending-form F ok kinds p ls taken (keeps-set-ascending F (F .literals) ls h))
       (all-intro (takes G) (extensionList p ls) (λ l m. within l (along (ap (λ (u : LiteralSet). u l) same) (set-of-mem m))))
       (omega (arith, size, count)) (omega (arith, size, count, ok .total))

@@ -3,7 +3,7 @@
 -- Assumes nothing.
 use Prim.Native.Nat.{ℕ, suc, _+_, _*_, _≤_, max}
 use native.Mathlib.Omega.{arith}
-use native.Mathlib.Nat.{suc-mul}
+use native.Mathlib.Nat.{suc-mul, mul-le-mul-right}
 use mathlib.Core.Path.{_≡_, refl, ap}
 use mathlib.Core.Bool.{Bool, true, false, cond, not, _&&_}
 use mathlib.Core.List.{List, [], _∷_, _++_}
@@ -15,9 +15,9 @@ use Rattle.literal.specs.declared.SignedAtom.{SignedAtom}
 use Rattle.literal.specs.declared.Literal.the-variants.{Signed, Defeated, Derived}
 use Rattle.semantics.specs.Set.{LiteralSet, eachOf}
 use Rattle.semantics.specs.Rule.{Rule, strict, defeasible, head, Program}
-use Rattle.semantics.specs.Form.{keepsRule}
+use Rattle.semantics.specs.Form.{keepsRule, keepsRules}
 use Rattle.semantics.proofs.Laws.Tests.{first, second}
-use Rattle.semantics.proofs.Laws.Form.{kept}
+use Rattle.semantics.proofs.Laws.Form.{kept, keeps-count, keeps-each}
 use Rattle.extend_marks.specs.Marks.{derivedMarks, ruleMarks, marksFrom}
 use Rattle.extend_marks.specs.Code.{ruleRoom, marksRoom}
 use Rattle.extend_marks.proofs.Laws.Rule.{marks-defeated, marks-open}
@@ -61,8 +61,11 @@ unfolding ruleRoom head
 rule-room F one (strict h b c) k = omega arith
 rule-room F one (defeasible t h b c) k = omega (arith, kept F (defeasible t h b c) k .heads, length-map h Signed)
 
-pub rules-room : (F : Limits) → 1 ≤ F .heads → (p : Program) → T (eachOf (keepsRule F) p) → marksRoom p ≤ length p * F .heads
+rules-room : (F : Limits) → 1 ≤ F .heads → (p : Program) → T (eachOf (keepsRule F) p) → marksRoom p ≤ length p * F .heads
 unfolding marksRoom
 rules-room F one [] k = omega arith
 rules-room F one (r ∷ p) k =
     omega (arith, rule-room F one r (first (keepsRule F r) _ k), rules-room F one p (second (keepsRule F r) _ k), suc-mul (length p) (F .heads))
+
+pub written-room : (F : Limits) → 1 ≤ F .heads → (p : Program) → T (keepsRules F p) → marksRoom p ≤ F .rules * F .heads
+written-room F one p k = omega (arith, rules-room F one p (keeps-each F p k), mul-le-mul-right (F .heads) (keeps-count F p k))

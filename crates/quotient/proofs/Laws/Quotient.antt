@@ -1,6 +1,6 @@
 -- Laws of the operation: its outcome from what reading gave, and the answers that meet it.
 -- In order: a program and a set that are held: 9, and what is written; that their quotient can be; a refusal of the program or the set;
--- the program that is meant; both, as read; the two forms. Assumes nothing.
+-- the program that is meant; both, as read; what is given and answered, with sheets or without; the two forms. Assumes nothing.
 use Prim.Native.Nat.{ℕ, _*_, _+_, _≤_}
 use native.Mathlib.Omega.{arith}
 use mathlib.Core.Path.{_≡_, refl, sym, _∙_, ap, subst}
@@ -37,7 +37,7 @@ use Rattle.record.proofs.Laws.Meant.{items-expanded}
 use Rattle.record.proofs.Laws.Fit.{program-fits}
 use Rattle.record_walk.specs.Code.{Holds, HoldsFile}
 use Rattle.expand.specs.Code.{Expandable, normalBytes, Normalizable, Normal}
-use Rattle.expand.proofs.Laws.File.{file-means, normal-holds}
+use Rattle.expand.proofs.Laws.File.{means-wider, file-means, normal-holds}
 use Rattle.set.specs.Reading.{parsedSet}
 use Rattle.set.specs.Code.{Ascends, keySet}
 use Rattle.set.proofs.Laws.Keys.{set-long, set-ascends, read-agree}
@@ -45,7 +45,7 @@ use Rattle.inputs.specs.declared.Both.{Both}
 use Rattle.inputs.specs.Code.{bothRead, Inputs}
 use Rattle.inputs.proofs.Laws.Inputs.{inputs-refused, inputs-given}
 use Rattle.quotient.specs.Quotient.{remainderRule, quotientProgram, quotientBytes, quotiented}
-use Rattle.quotient.specs.Code.{quotientOf, Sized, Countable, Fitting, Dividing, DividingFile, deliveredQuotient}
+use Rattle.quotient.specs.Code.{quotientOf, Sized, Countable, Fitting, Dividing, DividingFile, deliveredQuotient, Given, Answered}
 
 module _ (s k out : List ℕ) {c : ℕ} (w : Dividing s k c) (program-bytes : Bytes s) (set-bytes : Bytes k) where
   -- the set can be searched
@@ -156,6 +156,18 @@ module _ (F : Limits) (s k out : List ℕ) where
       unfolding file-dividing file-means
       file-met m = quotient-met (expanded (w .file)) (w .literals) (items-parsed F s (w .file) (w .holds)) (w .members) (m file-dividing)
 
+-- more bytes are enough too
+unfoldable pub dividing-wider : {most room : ℕ} {s k : List ℕ} {c : ℕ} → DividingFile most s k c → most ≤ room → DividingFile room s k c
+dividing-wider w more =
+    record {
+      file = means-wider (w .file) more;
+      form = w .form;
+      upto = w .upto;
+      literals = w .literals;
+      members = w .members;
+      counted = w .counted;
+    }
+
 -- a normal form holds the program that is meant
 module _ {most : ℕ} {s k : List ℕ} {c : ℕ} (w : DividingFile most s k c) {d e : List ℕ} {n : ℕ}
     (made : (v : HoldsFile (Expandable most) s) → Normal d (v .items) n e) where
@@ -169,6 +181,14 @@ module _ {most : ℕ} {s k : List ℕ} {c : ℕ} (w : DividingFile most s k c) {
         members = w .members;
         counted = w .counted;
       }
+
+-- what is given and what is answered, where it is known whether there are sheets
+pub given-as : {a b : Bool} (s k : List ℕ) (n : ℕ) → a ≡ b → Given a s k n → Given b s k n
+given-as s k n e w = subst (λ (x : Bool). Given x s k n) e w
+
+pub answered-as : {a b : Bool} (s k : List ℕ) (n : ℕ) (out : List ℕ) (r : Written) (end : List ℕ) → a ≡ b → Answered b s k n out r end
+    → Answered a s k n out r end
+answered-as s k n out r end e m = subst (λ (x : Bool). Answered x s k n out r end) (sym e) m
 
 -- the same limits have the same outcome
 pub met-same : (F G : Limits) (s k out : List ℕ) {r : Written} {e : List ℕ} → F ≡ G → Meets (quotiented F s k out) r e → Meets (quotiented G s k out) r e

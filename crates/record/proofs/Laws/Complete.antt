@@ -30,18 +30,17 @@ use Rattle.semantics.specs.Form.{keepsCounts, keepsRule, keepsOverride, keepsOp
 use Rattle.semantics.proofs.Laws.Tests.{both, first, second, is-true, along, all-append}
 use Rattle.semantics.proofs.Laws.Form.{kept}
 use Rattle.record.specs.declared.Reason.the-variants.{LiteralWrong, HeadWrong}
-use Rattle.record.specs.declared.Mark.{Mark}
-use Rattle.record.specs.declared.Mark.the-variants.{RuleMark, OverrideMark, OppositionMark}
 use Rattle.record.specs.declared.Held.{Held}
 use Rattle.record.specs.Header.{strictLetter, defeasibleLetter, overrideLetter, oppositionLetter}
 use Rattle.record.specs.Refusal.{refusal}
 use Rattle.record.specs.Result.{Result, accepted, refused, andThen, refuseIf}
 use Rattle.record.specs.Layout.{encodedLiterals, ruleRecord, encodedRule, encodedEnd, encodedOverride, encodedOpposition, encodedItem, encodedItems}
-use Rattle.record.specs.Reading.{Entry, item, end, literalsAt, optionsOf, defeasibleRule, ruleOf, tagRight, bodyAt, ruleAt, overrideAt, signedOf, signedAt, oppositionOf, oppositionAt, endAt, marked, pickMark, markAt, markedRecord, recordAt, holding, itemsFrom}
+use Rattle.record.specs.Reading.{Mark, RuleMark, OverrideMark, OppositionMark, Entry, item, end, literalsAt, optionsOf, defeasibleRule, ruleOf, tagRight, bodyAt, ruleAt, overrideAt, signedOf, signedAt, oppositionOf, oppositionAt, endAt, marked, pickMark, markAt, markedRecord, recordAt, holding, itemsFrom}
+use Rattle.record.specs.Code.{heldOn}
 use Rattle.record.proofs.Laws.Result.{accepted-and-then, refuse-if-false}
 use Rattle.record.proofs.Laws.Steps.{items-item, items-end}
 use Rattle.record.proofs.Laws.Layout.{length-encoded-literals, length-encoded-rule, itemLength, length-encoded-item}
-use Rattle.record.proofs.Laws.Program.{heldOn, held-on}
+use Rattle.record.proofs.Laws.Program.{held-on}
 use Rattle.record.proofs.Laws.Sound.{Fitting}
 
 -- a test that passes, under a not

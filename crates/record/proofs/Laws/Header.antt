@@ -14,15 +14,13 @@ use Rattle.semantics.specs.Set.{sameSigned}
 use Rattle.semantics.specs.Item.{override}
 use Rattle.semantics.specs.Form.{keepsCounts}
 use Rattle.record.specs.declared.Reason.the-variants.{MarkCut, MarkWrong, HeaderCut, TooManyRules, TagWrong, TooManyLiterals, EndWrong, TooManySheets, SheetCut, SheetSame}
-use Rattle.record.specs.declared.Mark.{Mark}
-use Rattle.record.specs.declared.Mark.the-variants.{RuleMark, OverrideMark, OppositionMark, EndMark, NoMark}
 use Rattle.record.specs.declared.Step.{Step}
 use Rattle.record.specs.declared.Held.{Held}
 use Rattle.record.specs.declared.Refusal.{Refusal}
 use Rattle.record.specs.Header.{headCount, positiveCount, nafCount}
 use Rattle.record.specs.Refusal.{refusal}
 use Rattle.record.specs.Result.{Result, accepted, refused, andThen, refuseIf}
-use Rattle.record.specs.Reading.{item, end, tagRight, bodyAt, ruleAt, overrideAt, signedAt, oppositionOf, oppositionAt, endAt, markAt, markedRecord, recordAt}
+use Rattle.record.specs.Reading.{Mark, RuleMark, OverrideMark, OppositionMark, EndMark, NoMark, item, end, tagRight, bodyAt, ruleAt, overrideAt, signedAt, oppositionOf, oppositionAt, endAt, markAt, markedRecord, recordAt}
 use Rattle.record.specs.Code.{stepOf}
 use Rattle.record.proofs.Laws.Result.{refuse-if-true, refuse-if-false}
 

@@ -7,13 +7,11 @@ use lib.Dec.{ltb, eqb}
 use lib.ListN.{getD}
 use borrow.Author.Tests.{lt-ltb, eq-eqb, ne-eqb}
 use Rattle.literal.specs.declared.Limits.{Limits}
-use Rattle.record.specs.declared.Mark.{Mark}
-use Rattle.record.specs.declared.Mark.the-variants.{RuleMark, OverrideMark, OppositionMark, EndMark, NoMark}
 use Rattle.record.specs.Header.{strictLetter, defeasibleLetter, endLetter, overrideLetter, oppositionLetter, letterOf, colon}
-use Rattle.record.specs.Reading.{marked, pickMark, markAt}
+use Rattle.record.specs.Reading.{Mark, RuleMark, OverrideMark, OppositionMark, EndMark, NoMark, marked, pickMark, markAt}
 
 -- the mark of a letter, before a colon
-pub letterMark : Limits → ℕ → Mark
+unfoldable pub letterMark : Limits → ℕ → Mark
 letterMark F letter =
     pickMark (eqb letter strictLetter) (eqb letter defeasibleLetter && F .defeasible) (eqb letter overrideLetter && ltb 0 (F .sheets))
     (eqb letter oppositionLetter && ltb 0 (F .sheets)) (eqb letter endLetter)
@@ -62,24 +60,10 @@ module _ (F : Limits) (l : ℕ) where
   unfolding letterMark pickMark
   letter-o e d = rw (e, lt-ltb 0 (F .sheets) d)
 
-  pub letter-o-none : l ≡ overrideLetter → ltb 0 (F .sheets) ≡ false → letterMark F l ≡ NoMark
-  unfolding letterMark pickMark
-  letter-o-none e d = rw (e, d)
-
   pub letter-x : l ≡ oppositionLetter → 0 < F .sheets → letterMark F l ≡ OppositionMark
   unfolding letterMark pickMark
   letter-x e d = rw (e, lt-ltb 0 (F .sheets) d)
 
-  pub letter-x-none : l ≡ oppositionLetter → ltb 0 (F .sheets) ≡ false → letterMark F l ≡ NoMark
-  unfolding letterMark pickMark
-  letter-x-none e d = rw (e, d)
-
   pub letter-e : l ≡ endLetter → letterMark F l ≡ EndMark
   unfolding letterMark pickMark
   letter-e e = rw e
-
-  pub letter-other : (l ≡ strictLetter → ⊥) → (l ≡ defeasibleLetter → ⊥) → (l ≡ overrideLetter → ⊥) → (l ≡ oppositionLetter → ⊥) → (l ≡ endLetter → ⊥)
-      → letterMark F l ≡ NoMark
-  unfolding letterMark pickMark
-  letter-other s d o x e =
-      rw (ne-eqb l strictLetter s, ne-eqb l defeasibleLetter d, ne-eqb l overrideLetter o, ne-eqb l oppositionLetter x, ne-eqb l endLetter e)

@@ -18,15 +18,13 @@ use Rattle.literal.specs.Literal.{decoded}
 use Rattle.semantics.specs.Rule.{Rule, defeasible}
 use Rattle.record.specs.declared.Reason.the-variants.{LiteralWrong, HeadWrong}
 use Rattle.record.specs.declared.Refusal.{Refusal}
-use Rattle.record.specs.declared.Mark.{Mark}
-use Rattle.record.specs.declared.Mark.the-variants.{RuleMark, OverrideMark, OppositionMark, EndMark, NoMark}
 use Rattle.record.specs.declared.Step.{Step}
 use Rattle.record.specs.declared.Held.{Held}
 use Rattle.record.specs.declared.Found.{Found}
 use Rattle.record.specs.Header.{headCount, positiveCount, nafCount}
 use Rattle.record.specs.Refusal.{refusal}
 use Rattle.record.specs.Result.{Result, accepted, refused, andThen, refuseIf}
-use Rattle.record.specs.Reading.{literalsAt, optionsOf, defeasibleRule, ruleOf, bodyAt, ruleAt, overrideAt, signedOf, signedAt, oppositionOf, oppositionAt, endAt, markAt, markedRecord, recordAt}
+use Rattle.record.specs.Reading.{Mark, RuleMark, OverrideMark, OppositionMark, EndMark, NoMark, literalsAt, optionsOf, defeasibleRule, ruleOf, bodyAt, ruleAt, overrideAt, signedOf, signedAt, oppositionOf, oppositionAt, endAt, markAt, markedRecord, recordAt}
 use Rattle.record.specs.Code.{stepOf, foundOf}
 use Rattle.record.proofs.Laws.Program.{step-refused, found-refused}
 

@@ -16,8 +16,6 @@ use Rattle.semantics.specs.Rule.{Rule}
 use Rattle.semantics.specs.Item.{Item, rule, override, opposition, rules, overrides, oppositions}
 use Rattle.record.specs.declared.Reason.the-variants.{TooLong}
 use Rattle.record.specs.declared.Refusal.{Refusal}
-use Rattle.record.specs.declared.Mark.{Mark}
-use Rattle.record.specs.declared.Mark.the-variants.{RuleMark, OverrideMark, OppositionMark, EndMark, NoMark}
 use Rattle.record.specs.declared.Step.{Step}
 use Rattle.record.specs.declared.Held.{Held}
 use Rattle.record.specs.declared.Found.{Found}
@@ -26,24 +24,12 @@ use Rattle.record.specs.declared.Reading.{Reading}
 use Rattle.record.specs.Header.{headCount, positiveCount, nafCount}
 use Rattle.record.specs.Refusal.{refusal, shifted}
 use Rattle.record.specs.Result.{Result, accepted, refused, andThen}
-use Rattle.record.specs.Reading.{Entry, item, end, literalsAt, ruleOf, bodyAt, ruleAt, overrideAt, signedAt, oppositionOf, oppositionAt, endAt, markAt, markedRecord, recordAt, nothing, holding, itemsFrom, items, written, heldOf, holdingOf, readingOf, reading}
-use Rattle.record.specs.Code.{stepOf, foundOf, ruleCount}
+use Rattle.record.specs.Reading.{Mark, RuleMark, OverrideMark, OppositionMark, EndMark, NoMark, Entry, item, end, literalsAt, ruleOf, bodyAt, ruleAt, overrideAt, signedAt, oppositionOf, oppositionAt, endAt, markAt, markedRecord, recordAt, nothing, holding, itemsFrom, items, written, heldOf, holdingOf, readingOf, reading}
+use Rattle.record.specs.Code.{stepOf, foundOf, total, heldOn, readOn, left, ruleCount}
 use Rattle.record.proofs.Laws.Result.{refused-accepted, accepted-eq, and-then-accepted, refuse-if-accepted, refuse-if-true, refuse-if-false}
 use Rattle.record.proofs.Laws.Steps.{items-refused, items-item, items-end}
 
--- h with the items of a part behind it
-unfoldable pub heldOn : Held → List Item → Held
-heldOn h [] = h
-heldOn h (i ∷ is) = heldOn (holding h i) is
-
-unfoldable readOn : Held → Result (List Item) → Holding
-readOn h (accepted is) = Holding.All (heldOn h is)
-readOn h (refused x) = Holding.Refused x
-
--- how many items are held
-abbrev pub total : Held → ℕ
-total h = h .rules + h .overrides + h .oppositions
-
+-- one item more is held
 pub total-holding : (h : Held) (i : Item) → total (holding h i) ≡ total h + 1
 unfolding holding
 total-holding h (rule r) = omega arith
@@ -196,10 +182,6 @@ read-cons : (h : Held) (i : Item) (q : Result (List Item)) → readOn h (andThen
 unfolding readOn andThen heldOn
 read-cons h i (accepted is) = refl
 read-cons h i (refused x) = refl
-
--- the part of s from `at` on, where h is held
-pub left : Limits → List ℕ → ℕ → Held → Holding
-left F s at h = readOn h (itemsFrom F (length s + 1 - total h) (drop at s) at h)
 
 module _ (F : Limits) (s : List ℕ) where
   -- 1: the slice is too long

@@ -28,16 +28,14 @@ use Rattle.semantics.specs.Item.{Item, rule, override, opposition}
 use Rattle.semantics.specs.Form.{keepsCounts, keepsLiterals, keepsTag, keepsRule, keepsOverride, keepsOpposition, keepsItem}
 use Rattle.semantics.proofs.Laws.Tests.{both, first, second, along, all-append}
 use Rattle.record.specs.declared.Reason.the-variants.{LiteralWrong, HeadWrong}
-use Rattle.record.specs.declared.Mark.{Mark}
-use Rattle.record.specs.declared.Mark.the-variants.{RuleMark, OverrideMark, OppositionMark, EndMark, NoMark}
 use Rattle.record.specs.declared.Held.{Held}
 use Rattle.record.specs.Header.{strictLetter, defeasibleLetter, endLetter, overrideLetter, oppositionLetter, letterOf, headCount, positiveCount, nafCount, colon}
 use Rattle.record.specs.Refusal.{refusal, shifted}
 use Rattle.record.specs.Result.{Result, accepted, refused, andThen}
 use Rattle.record.specs.Layout.{encodedLiterals, ruleRecord, encodedRule, encodedEnd, encodedOverride, encodedOpposition, encodedItem, encodedItems}
-use Rattle.record.specs.Reading.{Entry, item, end, literalsAt, optionsOf, defeasibleRule, ruleOf, tagRight, bodyAt, ruleAt, overrideAt, signedOf, signedAt, oppositionOf, oppositionAt, endAt, marked, pickMark, markAt, markedRecord, recordAt, holding, itemsFrom}
+use Rattle.record.specs.Reading.{Mark, RuleMark, OverrideMark, OppositionMark, EndMark, NoMark, Entry, item, end, literalsAt, optionsOf, defeasibleRule, ruleOf, tagRight, bodyAt, ruleAt, overrideAt, signedOf, signedAt, oppositionOf, oppositionAt, endAt, marked, pickMark, markAt, markedRecord, recordAt, holding, itemsFrom}
+use Rattle.record.specs.Code.{heldOn}
 use Rattle.record.proofs.Laws.Result.{refused-accepted, accepted-eq, and-then-accepted, refuse-if-accepted}
-use Rattle.record.proofs.Laws.Program.{heldOn}
 
 -- a run of n literals
 pub record Run (F : Limits) (bs : List ℕ) (n : ℕ) (ls : List Literal) : Type 0 where

@@ -1,26 +1,29 @@
 -- Laws of what stands before a record's literals: a told step is no rule's, and marks are the form's.
--- In order: a refusal; other records; a rule's mark; a header and its record; which of the two was found; what literals come to.
+-- In order: a refusal; the end; how marks and letters start a record; a header and its record; which of the three was found; what literals
+-- come to.
 -- Assumes nothing.
 use Prim.Native.Nat.{ℕ}
 use native.Mathlib.Omega.{arith}
-use mathlib.Core.Path.{_≡_, sym, ap, subst, _∙_}
+use mathlib.Core.Path.{_≡_, refl, sym, ap, ap₂, subst, _∙_}
 use mathlib.Core.Bool.{Bool, true, false, _&&_, and-false}
 use mathlib.Core.List.{List}
-use lib.Dec.{ltb}
+use lib.Dec.{ltb, eqb}
+use borrow.Author.Tests.{le-ltb, ne-eqb}
 use Rattle.literal.specs.declared.Limits.{Limits}
 use Rattle.semantics.specs.Rule.{Rule}
 use Rattle.semantics.specs.Item.{rule}
-use Rattle.record.specs.declared.Mark.the-variants.{RuleMark}
 use Rattle.record.specs.declared.Refusal.{Refusal}
 use Rattle.record.specs.declared.Step.{Step}
 use Rattle.record.specs.Header.{strictLetter, defeasibleLetter, endLetter, overrideLetter, oppositionLetter, headCount, positiveCount, nafCount}
 use Rattle.record.specs.Result.{Result, accepted}
-use Rattle.record.specs.Reading.{Entry, item, bodyAt, overrideAt, signedAt, oppositionOf, oppositionAt, endAt, marked, pickMark, markAt}
+use Rattle.record.specs.Reading.{Mark, RuleMark, OverrideMark, OppositionMark, EndMark, NoMark, Entry, item, bodyAt, endAt, marked, pickMark, markAt}
 use Rattle.record.specs.Code.{stepOf}
-use Rattle.record.proofs.Laws.Result.{accepted-eq, and-then-accepted, refuse-if-accepted}
+use Rattle.record.proofs.Laws.Marks.{letterMark}
+use Rattle.record.proofs.Laws.Result.{accepted-eq, refuse-if-accepted}
 use Rattle.record.proofs.Laws.Program.{step-rule}
+use Rattle.record_read.specs.declared.Opening.{Opening}
 use Rattle.record_read.specs.declared.Front.{Front}
-use Rattle.record_read.specs.Code.{StepTold, LiteralsLeft, FrontAt}
+use Rattle.record_read.specs.Code.{opening, StepTold, LiteralsLeft, OtherLeft, FrontAt}
 
 -- a refusal is no rule
 pub told-refused : (e : Result Entry) (x : Step) (y : Refusal) → x ≡ Step.Refused y → stepOf e ≡ Step.Refused y → StepTold e x
@@ -31,7 +34,7 @@ told-other : (e f : Result Entry) (x : Step) → x ≡ stepOf f → stepOf e ≡
 told-other e f x q p none =
     record { step = p ∙ sym q; unruled = λ size z. let w = step-rule f size (sym q ∙ z) in none (w .0) size (w .1) }
 
--- the end record, an override and an opposition come to none
+-- the end record comes to none
 pub told-end : (n : ℕ) (t : List ℕ) (e : Result Entry) (x : Step) → x ≡ stepOf (endAt n t) → stepOf e ≡ stepOf (endAt n t) → StepTold e x
 unfolding endAt
 told-end n t e x q p =
@@ -41,30 +44,64 @@ told-end n t e x q p =
     let z : _≡_ {A = ℕ} 0 1 = cc in
     omega (arith, z))
 
-pub told-override : (F : Limits) (n : ℕ) (t : List ℕ) (e : Result Entry) (x : Step) → x ≡ stepOf (overrideAt F n t) → stepOf e ≡ stepOf (overrideAt F n t)
-    → StepTold e x
-unfolding overrideAt
-told-override F n t e x q p =
-    told-other e (overrideAt F n t) x q p (λ r size w.
-    let q1 = refuse-if-accepted _ _ _ (item (rule r) size) w in
-    let q2 = refuse-if-accepted _ _ _ (item (rule r) size) (q1 .1) in
-    let q3 = refuse-if-accepted _ _ _ (item (rule r) size) (q2 .1) in
-    let same = accepted-eq (refuse-if-accepted _ _ _ (item (rule r) size) (q3 .1) .1) in
-    let z : _≡_ {A = ℕ} 0 1 = cc in
-    omega (arith, z))
+-- a record that starts as a rule's or the end has that mark
+pub opens-rule : (m : Mark) (d : Bool) → opening m ≡ Opening.Rule d → m ≡ RuleMark d
+unfolding opening
+opens-rule (RuleMark b) d e = let same : b ≡ d = cc in ap RuleMark same
+opens-rule OverrideMark d e = let z : _≡_ {A = ℕ} 0 1 = cc in absurd (omega (arith, z))
+opens-rule OppositionMark d e = let z : _≡_ {A = ℕ} 0 1 = cc in absurd (omega (arith, z))
+opens-rule EndMark d e = let z : _≡_ {A = ℕ} 0 1 = cc in absurd (omega (arith, z))
+opens-rule NoMark d e = let z : _≡_ {A = ℕ} 0 1 = cc in absurd (omega (arith, z))
 
-pub told-opposition : (F : Limits) (n : ℕ) (t : List ℕ) (e : Result Entry) (x : Step) → x ≡ stepOf (oppositionAt F n t) → stepOf e ≡ stepOf (oppositionAt F n t)
-    → StepTold e x
-unfolding oppositionAt oppositionOf
-told-opposition F n t e x q p =
-    told-other e (oppositionAt F n t) x q p (λ r size w.
-    let q1 = refuse-if-accepted _ _ _ (item (rule r) size) w in
-    let q2 = refuse-if-accepted _ _ _ (item (rule r) size) (q1 .1) in
-    let q3 = and-then-accepted (signedAt F t 2) _ (item (rule r) size) (q2 .1) in
-    let q4 = and-then-accepted (signedAt F t 7) _ (item (rule r) size) (q3 .2) in
-    let same = accepted-eq (refuse-if-accepted _ _ _ (item (rule r) size) (q4 .2) .1) in
-    let z : _≡_ {A = ℕ} 0 1 = cc in
-    omega (arith, z))
+pub opens-end : (m : Mark) → opening m ≡ Opening.End → m ≡ EndMark
+unfolding opening
+opens-end (RuleMark b) e = let z : _≡_ {A = ℕ} 0 1 = cc in absurd (omega (arith, z))
+opens-end OverrideMark e = let z : _≡_ {A = ℕ} 0 1 = cc in absurd (omega (arith, z))
+opens-end OppositionMark e = let z : _≡_ {A = ℕ} 0 1 = cc in absurd (omega (arith, z))
+opens-end EndMark e = refl
+opens-end NoMark e = let z : _≡_ {A = ℕ} 0 1 = cc in absurd (omega (arith, z))
+
+-- a letter that is not S, D or E starts no rule's record and not the end
+pub letter-opens : (F : Limits) (l : ℕ) → (l ≡ strictLetter → ⊥) → (l ≡ defeasibleLetter → ⊥) → (l ≡ endLetter → ⊥)
+    → opening (letterMark F l) ≡ Opening.Other
+unfolding letterMark opening pickMark
+letter-opens F l s d e =
+    rw (ne-eqb l strictLetter s, ne-eqb l defeasibleLetter d, ne-eqb l endLetter e) (go (eqb l overrideLetter && ltb 0 (F .sheets)) _)
+  where
+    go : (o x : Bool) → opening (pickMark false false o x false) ≡ Opening.Other
+    go true x = refl
+    go false true = refl
+    go false false = refl
+
+-- what starts neither a rule's record nor the end, and is no sheet's, is no mark of the form
+no-mark : (s d e : Bool) → opening (pickMark s d false false e) ≡ Opening.Other → pickMark s d false false e ≡ NoMark
+unfolding opening pickMark
+no-mark true d e q = let z : _≡_ {A = ℕ} 0 1 = cc in absurd (omega (arith, z))
+no-mark false true e q = let z : _≡_ {A = ℕ} 0 1 = cc in absurd (omega (arith, z))
+no-mark false false true q = let z : _≡_ {A = ℕ} 0 1 = cc in absurd (omega (arith, z))
+no-mark false false false q = refl
+
+-- in a form without sheets
+pub other-unmarked : (F : Limits) (t : List ℕ) → OtherLeft F t → F .sheets ≡ 0 → markAt F t ≡ NoMark
+unfolding markAt
+other-unmarked F t w e =
+    let strict = marked strictLetter t in
+    let defeasible = marked defeasibleLetter t && F .defeasible in
+    let none : ltb 0 (F .sheets) ≡ false = le-ltb 0 (F .sheets) (omega (arith, e)) in
+    let same = ap (λ (b : Bool). pickMark strict defeasible (marked overrideLetter t && b) (marked oppositionLetter t && b) (marked endLetter t)) none
+    ∙ ap₂ (λ (o x : Bool). pickMark strict defeasible o x (marked endLetter t)) (and-false (marked overrideLetter t)) (and-false (marked oppositionLetter t)) in
+    same ∙ no-mark strict defeasible (marked endLetter t) (ap opening (sym same) ∙ w .other)
+
+-- where it is not O or X
+pub letter-unmarked : (F : Limits) (l : ℕ) → opening (letterMark F l) ≡ Opening.Other → (l ≡ overrideLetter → ⊥) → (l ≡ oppositionLetter → ⊥)
+    → letterMark F l ≡ NoMark
+unfolding letterMark
+letter-unmarked F l other o x =
+    let strict = eqb l strictLetter in
+    let defeasible = eqb l defeasibleLetter && F .defeasible in
+    let same = ap₂ (λ (o x : Bool). pickMark strict defeasible (o && ltb 0 (F .sheets)) (x && ltb 0 (F .sheets)) (eqb l endLetter))
+    (ne-eqb l overrideLetter o) (ne-eqb l oppositionLetter x) in
+    same ∙ no-mark strict defeasible (eqb l endLetter) (ap opening (sym same) ∙ other)
 
 -- D: is a mark where the form has defeasible rules
 pub mark-form : (F : Limits) (t : List ℕ) (d : Bool) → markAt F t ≡ RuleMark d → F .defeasible ≡ false → d ≡ false
@@ -91,14 +128,18 @@ mark-form F t d e plain =
 pub front-same : (F : Limits) (t : List ℕ) (e f : Result Entry) → stepOf f ≡ stepOf e → (r : Front) → FrontAt F t e r → FrontAt F t f r
 front-same F t e f p (Front.Told x) w = record { step = p ∙ w .step; unruled = w .unruled }
 front-same F t e f p (Front.Literals d) w = record { whole = w .whole; step = p ∙ w .step; form = w .form }
+front-same F t e f p Front.Other w = w
 
--- what was found, by which of the two it is
+-- what was found, by which of the three it is
 module _ (F : Limits) (t : List ℕ) (e : Result Entry) (r : Front) where
   pub front-told : (x : Step) → r ≡ Front.Told x → FrontAt F t e r → StepTold e x
   front-told x q w = subst (FrontAt F t e) q w
 
   pub front-literals : (d : Bool) → r ≡ Front.Literals d → FrontAt F t e r → LiteralsLeft F t e d
   front-literals d q w = subst (FrontAt F t e) q w
+
+  pub front-other : r ≡ Front.Other → FrontAt F t e r → OtherLeft F t
+  front-other q w = subst (FrontAt F t e) q w
 
 -- what the literals come to, the record does
 pub literals-step : (F : Limits) (t : List ℕ) (e : Result Entry) (d : Bool) → LiteralsLeft F t e d → (x : Step)

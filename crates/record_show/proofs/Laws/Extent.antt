@@ -13,6 +13,7 @@ use borrow.Author.Tests.{eq-eqb, ne-eqb}
 use Rattle.semantics.specs.Rule.{Rule, Program}
 use Rattle.semantics.specs.Item.{Item, rule, override, opposition, rules}
 use Rattle.semantics.specs.Translation.{recordLength}
+use Rattle.semantics.proofs.Laws.Expansion.{rules-append}
 use Rattle.record.specs.Header.{overrideLetter, oppositionLetter, letterOf}
 use Rattle.record.specs.Layout.{encodedRule, encodedRules, encodedEnd, encodedOverride, encodedOpposition, encodedItem, encodedItems, encodedFile}
 use Rattle.record.proofs.Laws.Layout.{length-encoded-rule, itemLength, length-encoded-item, encoded-items-append}
@@ -114,14 +115,7 @@ extent-more {gone = gone} n e w m =
     ∙ extent-behind (map rule gone) (m .the-rule) (map rule (m .behind)) n (e ∙ ap (λ (q : Program). length q + 1) (sym (rules-of gone)))
     ∙ ap₂ (λ (a b : ℕ). record { start = a; size = b }) (ap length (items-bytes gone) ∙ sym (w .passed)) (length-encoded-rule (m .the-rule) ∙ sym (m .size))
 
--- the rules of an append, and of one item more
-pub rules-append : (is js : List Item) → rules (is ++ js) ≡ rules is ++ rules js
-unfolding rules
-rules-append [] js = refl
-rules-append (rule r ∷ is) js = ap (λ (q : Program). r ∷ q) (rules-append is js)
-rules-append (override o ∷ is) js = rules-append is js
-rules-append (opposition x ∷ is) js = rules-append is js
-
+-- the rules of one item more
 pub rules-more : (gone : List Item) (i : Item) → length (rules (gone ++ i ∷ [])) ≡ length (rules gone) + length (rules (i ∷ []))
 rules-more gone i = ap length (rules-append gone (i ∷ [])) ∙ length-append (rules gone) (rules (i ∷ []))
 

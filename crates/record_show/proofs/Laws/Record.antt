@@ -14,6 +14,7 @@ use Rattle.literal.specs.declared.Limits.{Limits}
 use Rattle.literal.specs.Literal.{inRange}
 use Rattle.semantics.specs.Rule.{Rule}
 use Rattle.semantics.specs.Item.{Item, rule, rules}
+use Rattle.semantics.proofs.Laws.Expansion.{rules-append}
 use Rattle.record.specs.declared.Reason.the-variants.{NoSuchRule}
 use Rattle.record.specs.declared.Refusal.{Refusal}
 use Rattle.record.specs.Refusal.{refusal}
@@ -25,7 +26,7 @@ use Rattle.record.proofs.Laws.Reading.{items-read}
 use Rattle.record_show.specs.declared.Extent.{Extent}
 use Rattle.record_show.specs.declared.Shown.{Shown}
 use Rattle.record_show.specs.Show.{extentFrom, shown, shownExtent}
-use Rattle.record_show.proofs.Laws.Extent.{extent-behind, rules-append}
+use Rattle.record_show.proofs.Laws.Extent.{extent-behind}
 
 -- what one answer shows
 at-extent : {d e : Extent} → Shown.At d ≡ Shown.At e → d ≡ e

@@ -1,5 +1,5 @@
 -- Laws of preference sheets: what the rules that they append are, and how many.
--- In order: items within a form's limits; no sheet, no appended rule; how many are appended; that each is within the limits; an expanded
+-- In order: the rules of an append; items within a form's limits; no sheet, no appended rule; how many are appended; that each is within the limits; an expanded
 -- program within the limits. Not here: by what code sees that an appended rule is new (`Candidate`).
 -- Assumes nothing.
 use Prim.Native.Nat.{_+_, _*_, _≤_}
@@ -27,6 +27,14 @@ use Rattle.semantics.proofs.Laws.Tests.{both, first, second, along, all
 use Rattle.semantics.proofs.Laws.Form.{keeps-rules}
 use Rattle.semantics.proofs.Laws.Length.{programLength}
 use Rattle.semantics.proofs.Laws.Expanded.{Expanded, defeat-keeps, expanded-program-length, expanded-translation-length}
+
+-- the rules of items one behind the other
+pub rules-append : (is js : List Item) → rules (is ++ js) ≡ rules is ++ rules js
+unfolding rules
+rules-append [] js = refl
+rules-append (rule r ∷ is) js = ap (λ (p : Program). r ∷ p) (rules-append is js)
+rules-append (override o ∷ is) js = rules-append is js
+rules-append (opposition x ∷ is) js = rules-append is js
 
 module _ (F : Limits) where
   -- the counts of items within the limits, and each item

@@ -1,11 +1,11 @@
 -- Laws of translating: the outcome, from what reading gives and the room that there is.
 -- In order: a translatable program; the answers that meet too short a buffer, and a translation; a refusal; the program that is meant; a
--- program that was read; the form of sources.
+-- program that was read; what is given and answered, with sheets or without; the form of sources.
 -- Assumes nothing.
 use Prim.Native.Nat.{ℕ, _≤_, _<_}
 use native.Mathlib.Omega.{arith}
 use mathlib.Core.Path.{_≡_, refl, sym, _∙_, ap, subst}
-use mathlib.Core.Bool.{false}
+use mathlib.Core.Bool.{Bool, false}
 use mathlib.Core.List.{List}
 use lib.Dec.{leb, le→leb}
 use lib.ListN.{length}
@@ -42,7 +42,7 @@ use Rattle.record_walk.specs.Code.{Holds, HoldsFile}
 use Rattle.expand.specs.Code.{normalBytes, Normalizable, Meaning}
 use Rattle.expand.proofs.Laws.File.{file-means}
 use Rattle.translate.specs.Translate.{translatedBytes, translated}
-use Rattle.translate.specs.Code.{Translatable, Fitting, Writable, translationOf}
+use Rattle.translate.specs.Code.{Translatable, Fitting, Writable, translationOf, Given, Answered}
 
 -- a translation is as long as was measured
 pub length-translated : (p : Program) → length (encodedProgram (translation p)) ≡ translationLength p
@@ -128,6 +128,13 @@ module _ (F : Limits) (s out : List ℕ) where
           → ((w : HoldsFile (Meaning Translatable normalBytes) s) → Meets (translationOf (expanded (w .items)) out) r end) → Meets (translated F s out) r end
       unfolding given-file file-means
       file-met m = translation-met (expanded is) (items-parsed F s is read) (m given-file)
+
+-- what is given and what is answered, where it is known whether there are sheets
+pub given-as : {a b : Bool} (s : List ℕ) → a ≡ b → Given a s → Given b s
+given-as s e w = subst (λ (x : Bool). Given x s) e w
+
+pub answered-as : {a b : Bool} (s out : List ℕ) (r : Written) (end : List ℕ) → a ≡ b → Answered b s out r end → Answered a s out r end
+answered-as s out r end e m = subst (λ (x : Bool). Answered x s out r end) (sym e) m
 
 -- the same limits have the same outcome
 pub meets-same : (F G : Limits) (s out : List ℕ) {r : Written} {e : List ℕ} → F ≡ G → Meets (translated F s out) r e → Meets (translated G s out) r e

@@ -64,7 +64,7 @@ mark-record-requires c κs =
     let at-loop = c .before .before .before in
     let g = at-loop .loop .inv in
     let p = start-of at-loop .pre in
-    (p .0, (p .1 .0, (g .same ∙ p .1 .1 .1 .0, g .tallied)))
+    (p .0, (p .1 .0, (p .1 .1 .0, (g .same ∙ p .1 .1 .1 .0, g .tallied))))
 
 -- where a record was read, what is found behind it, and the loop there
 abbrev record-of : tie.After-hold Inv-loop μ-loop → tie.After-mark-record Inv-loop μ-loop

@@ -1,5 +1,6 @@
 -- `proposed::check_file` meets its contract: a refusal of the program or the set, or the check of the program that is meant.
 -- Assumes nothing.
+use native.Mathlib.Omega.{arith}
 use mathlib.Core.Path.{_≡_, sym, _∙_}
 use mathlib.Core.Bool.{false}
 use borrow.Author.Needs.{needs}
@@ -63,24 +64,33 @@ room c =
     clausable-unsheeted (a .lim) (start .pre .0) (now (a .s)) (given at-told .file) (bytes-s (read-of at-told)) (given at-told .holds) _ (given at-told .held)
     (unsheeted c)
 
-check-sheets-requires : tie.Need-check-sheets-requires
-check-sheets-requires c κs =
-    let at-told = c .before .before .before in
+-- what was read, from where an array that is not used is there
+abbrev told-of : tie.After-none → tie.After-known-told2
+told-of c = c .before .before .before
+
+check-meant-requires : tie.Need-check-meant-requires
+check-meant-requires c κs =
+    let at-told = told-of (c .before .before .before) in
     let at-read = read-of at-told in
     let start = start-of at-read in
-    let a = start .args in
-    file-checking (a .lim) (now (a .s)) (now (a .k)) (a .out .now) (start .pre .0 .checked) (given at-told) (bytes-k at-read) (start .pre .1) (bytes-s at-read)
-    (clausable-file (a .lim) (start .pre .0) (now (a .s)) (given at-told .file) (bytes-s at-read) (given at-told .holds))
+    let a = start .args in (
+      file-checking (a .lim) (now (a .s)) (now (a .k)) (a .out .now) (start .pre .0 .checked) (given at-told) (bytes-k at-read) (start .pre .1) (bytes-s at-read)
+          (clausable-file (a .lim) (start .pre .0) (now (a .s)) (given at-told .file) (bytes-s at-read) (given at-told .holds)),
+      λ long. absurd (omega arith),
+    )
 
 returns : tie.Need-returns
 returns c =
-    let at-sheets = c .before .before in
-    let at-told = at-sheets .before .before .before .before in
+    let at-heads = c .before .before .before in
+    let at-bodies = at-heads .before .before in
+    let at-meant = at-bodies .before .before in
+    let at-none = at-meant .before .before .before .before in
+    let at-told = told-of at-none in
     let at-read = read-of at-told in
     let start = start-of at-read in
     let a = start .args in
     file-met (a .lim) (now (a .s)) (now (a .k)) (a .out .now) (start .pre .0 .checked) (given at-told) (bytes-k at-read) (start .pre .1) (bytes-s at-read)
-    (clausable-file (a .lim) (start .pre .0) (now (a .s)) (given at-told .file) (bytes-s at-read) (given at-told .holds)) (at-sheets .check-sheets .ensures)
+    (clausable-file (a .lim) (start .pre .0) (now (a .s)) (given at-told .file) (bytes-s at-read) (given at-told .holds)) (at-meant .check-meant .ensures)
 
 check-program-requires : tie.Need-check-program-requires
 check-program-requires c κs =
@@ -113,5 +123,5 @@ returns-3 c =
 
 pub check-file-spec : {M : Type 1} → statement M
 check-file-spec =
-    tie.close (tie.spec (λ c κs. search needs) (λ c. search needs) (λ c. search needs) (λ c κs. search needs) check-sheets-requires (λ c. search needs)
-    returns check-program-requires returns-2 (λ c. search needs) (λ c. search needs) (λ c. search needs) returns-3)
+    tie.close (tie.spec (λ c κs. search needs) (λ c. search needs) (λ c. search needs) (λ c κs. search needs) (λ c. search needs) check-meant-requires
+    (λ c. search needs) (λ c. search needs) (λ c. search needs) returns check-program-requires returns-2 (λ c. search needs) (λ c. search needs) (λ c. search needs) returns-3)

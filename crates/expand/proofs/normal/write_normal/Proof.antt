@@ -63,9 +63,9 @@ write-behind-requires c κs = let at-front = front-of c in appendable at-front (
 
 returns : tie.Need-returns
 unfolding appendable
-returns c w =
+returns c =
     let at-behind = c .before .before .before .before in
-    at-behind .write-behind .ensures (appendable (front-of (at-behind .before)) w)
+    ((λ w. at-behind .write-behind .ensures (appendable (front-of (at-behind .before)) w)), refl)
 
 pub write-normal-spec : {M : Type 1} → statement M
 write-normal-spec =

@@ -1,15 +1,12 @@
 -- `extend::extend` meets its contract: a refusal of the program or the set, or the extension for the program that is meant.
 -- Assumes nothing.
-use mathlib.Core.Path.{_≡_, sym, _∙_}
+use mathlib.Core.Path.{sym, _∙_}
 use borrow.Author.Needs.{needs}
 use denote.Ref.{now}
 use Rattle.buffer.specs.Bytes.{Bytes}
-use Rattle.semantics.specs.Item.{expanded}
-use Rattle.record.specs.Layout.{encodedProgram}
-use Rattle.record.proofs.Laws.Meant.{held-unsheeted}
 use Rattle.inputs.specs.Code.{Inputs}
 use Rattle.inputs.proofs.Laws.Inputs.{inputs-read}
-use Rattle.extend.proofs.Laws.Outcome.{extended-refused, read-extending, read-met, file-extending, file-met}
+use Rattle.extend.proofs.Laws.Outcome.{extended-refused, read-extending, read-met}
 use Rattle.extend.proofs.extend.extend.Statement.{statement}
 use Rattle.extend.proofs.extend.extend.Tie as tie
 
@@ -22,7 +19,7 @@ read-of c =
     let at-match = c .before .before in
     at-match .before
 
--- the slices hold bytes; both were read, and the slice has the program's records where it has no sheets
+-- the slices hold bytes, and both were read
 bytes : (c : tie.After-read-inputs) → Bytes (now (start-of c .args .s))
 bytes c i = c .before .before .before .shared-slice-known .given i .fits
 
@@ -35,55 +32,28 @@ given c =
     let a = start-of (read-of c) .args in
     inputs-read (a .lim) (a .lim .literals) (now (a .s)) (now (a .k)) _ _ (sym (read-of c .read-inputs .ensures) ∙ c .before .inputs2 .given .1)
 
-same : (c : tie.Else1) → now (start-of (read-of (c .before .before)) .args .s) ≡ encodedProgram (expanded (given (c .before .before) .file))
-same c =
-    let at-told = c .before .before in
+write-extension-requires : tie.Need-write-extension-requires
+write-extension-requires c κs =
+    let at-told = c .before in
     let start = start-of (read-of at-told) in
     let a = start .args in
-    held-unsheeted (a .lim) (now (a .s)) (given at-told .file) (bytes (read-of at-told)) (given at-told .holds) _ (given at-told .held)
-    (sym (c .before .has-sheets .ensures) ∙ c .if1 .left)
-
-extend-sheets-requires : tie.Need-extend-sheets-requires
-extend-sheets-requires c κs =
-    let at-told = c .before .before .before in
-    let start = start-of (read-of at-told) in
-    let a = start .args in
-    file-extending (a .lim) (now (a .s)) (now (a .k)) (start .pre .0) (given at-told) (bytes (read-of at-told)) (chars (read-of at-told)) (start .pre .1)
+    read-extending (a .lim) (now (a .s)) (now (a .k)) (start .pre) (given at-told) (bytes (read-of at-told)) (chars (read-of at-told))
 
 returns : tie.Need-returns
 returns c =
-    let at-sheets = c .before .before in
-    let at-told = at-sheets .before .before .before .before in
-    let start = start-of (read-of at-told) in
-    let a = start .args in
-    file-met (a .lim) (now (a .s)) (now (a .k)) (start .pre .0) (given at-told) (bytes (read-of at-told)) (chars (read-of at-told)) (start .pre .1) (a .out .now)
-    (at-sheets .extend-sheets .ensures)
-
-write-extension-requires : tie.Need-write-extension-requires
-write-extension-requires c κs =
-    let at-if = c .before in
-    let at-told = at-if .before .before in
-    let start = start-of (read-of at-told) in
-    let a = start .args in
-    read-extending (a .lim) (now (a .s)) (now (a .k)) (start .pre .0) (given at-told) (bytes (read-of at-told)) (chars (read-of at-told)) (now (a .s)) (same at-if)
-
-returns-2 : tie.Need-returns-2
-returns-2 c =
     let at-read = c .before .before .before in
     let a = start-of at-read .args in
     extended-refused (a .lim) (now (a .s)) (now (a .k)) (a .out .now) _ (sym (at-read .read-inputs .ensures) ∙ c .before .inputs .given .1)
 
-returns-3 : tie.Need-returns-3
-returns-3 c =
+returns-2 : tie.Need-returns-2
+returns-2 c =
     let at-write = c .before .before in
-    let at-if = at-write .before .before in
-    let at-told = at-if .before .before in
+    let at-told = at-write .before .before in
     let start = start-of (read-of at-told) in
     let a = start .args in
-    read-met (a .lim) (now (a .s)) (now (a .k)) (start .pre .0) (given at-told) (bytes (read-of at-told)) (chars (read-of at-told)) (now (a .s)) (same at-if)
-    (a .out .now) (at-write .write-extension .ensures)
+    read-met (a .lim) (now (a .s)) (now (a .k)) (start .pre) (given at-told) (bytes (read-of at-told)) (chars (read-of at-told)) (a .out .now)
+    (at-write .write-extension .ensures)
 
 pub extend-spec : {M : Type 1} → statement M
 extend-spec =
-    tie.close (tie.spec (λ c κs. search needs) (λ c. search needs) (λ c. search needs) (λ c κs. search needs) extend-sheets-requires (λ c. search needs)
-    returns write-extension-requires returns-2 (λ c. search needs) returns-3)
+    tie.close (tie.spec (λ c κs. search needs) (λ c. search needs) (λ c. search needs) write-extension-requires returns (λ c. search needs) returns-2)

@@ -4,17 +4,13 @@ use mathlib.Core.Path.{sym, subst}
 use borrow.Author.Needs.{needs}
 use denote.Ref.{now}
 use Rattle.literal.specs.Limits.{source}
-use Rattle.expand.specs.Code.{Normalizable}
-use Rattle.expand.proofs.Laws.File.{normalizable-source}
 use Rattle.extend.specs.Code.{Extendable}
 use Rattle.extend.proofs.Laws.Outcome.{meets-same, extendable-source}
 use Rattle.extend.proofs.extend.extend_source.Statement.{statement}
 use Rattle.extend.proofs.extend.extend_source.Tie as tie
 
 extend-requires : tie.Need-extend-requires
-extend-requires c κs =
-    let same = sym (c .before .limits .ensures) in
-    (subst Extendable same extendable-source, subst Normalizable same normalizable-source)
+extend-requires c κs = subst Extendable (sym (c .before .limits .ensures)) extendable-source
 
 returns : tie.Need-returns
 returns c =

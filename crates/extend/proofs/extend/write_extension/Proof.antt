@@ -19,7 +19,7 @@ gather-marks-requires c κs =
     let bs : Bytes (now (a .s)) = λ i. at-shared-slice-known .shared-slice-known .given i .fits in
     let bk : Bytes (now (a .set)) = λ i. c .before .before .shared-slice-known2 .given i .fits in (
       extending-long (now (a .s)) (now (a .set)) (a .count) q bs bk,
-      (extending-ascends (now (a .s)) (now (a .set)) (a .count) q bs bk, (q .program, omega arith)),
+      (extending-ascends (now (a .s)) (now (a .set)) (a .count) q bs bk, (q .file, omega arith)),
     )
 
 abbrev start-of : tie.After-keys2 → tie.Start
@@ -59,7 +59,7 @@ write-joined-requires c κs =
     let bs : Bytes (now (a .s)) = λ i. at-keys .before .before .before .shared-slice-known .given i .fits in
     let bk : Bytes (now (a .set)) = λ i. at-keys .before .before .shared-slice-known2 .given i .fits in
     let g = at-keys2 .before .gather-marks .ensures in
-    let m = g (q .program) in (
+    let m = g (q .file) in (
       extending-long (now (a .s)) (now (a .set)) (a .count) q bs bk,
       (
         omega (arith, m .count, m .same),

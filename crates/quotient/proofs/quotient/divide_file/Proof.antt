@@ -40,21 +40,25 @@ same c =
     held-unsheeted (a .lim) (now (a .s)) (given at-told .file) (bytes (read-of at-told)) (given at-told .holds) _ (given at-told .held)
     (sym (c .before .has-sheets .ensures) ∙ c .if1 .left)
 
-divide-sheets-requires : tie.Need-divide-sheets-requires
-divide-sheets-requires c κs =
-    let at-told = c .before .before .before in
+-- what was read, from where an array that is not used is there
+abbrev told-of : tie.After-none → tie.After-known-told2
+told-of c = c .before .before .before
+
+divide-meant-requires : tie.Need-divide-meant-requires
+divide-meant-requires c κs =
+    let at-told = told-of (c .before) in
     let start = start-of (read-of at-told) in
     let a = start .args in
     file-dividing (a .lim) (now (a .s)) (now (a .k)) (a .out .now) (start .pre .0) (given at-told) (bytes (read-of at-told)) (start .pre .1)
 
 returns : tie.Need-returns
 returns c =
-    let at-sheets = c .before .before in
-    let at-told = at-sheets .before .before .before .before in
+    let at-meant = c .before .before .before in
+    let at-told = told-of (at-meant .before .before) in
     let start = start-of (read-of at-told) in
     let a = start .args in
     file-met (a .lim) (now (a .s)) (now (a .k)) (a .out .now) (start .pre .0) (given at-told) (bytes (read-of at-told)) (start .pre .1)
-    (at-sheets .divide-sheets .ensures)
+    (at-meant .divide-meant .ensures)
 
 divide-program-requires : tie.Need-divide-program-requires
 divide-program-requires c κs =
@@ -82,5 +86,5 @@ returns-3 c =
 
 pub divide-file-spec : {M : Type 1} → statement M
 divide-file-spec =
-    tie.close (tie.spec (λ c κs. search needs) (λ c. search needs) (λ c. search needs) (λ c κs. search needs) divide-sheets-requires (λ c. search needs)
-    returns divide-program-requires returns-2 (λ c. search needs) returns-3)
+    tie.close (tie.spec (λ c κs. search needs) (λ c. search needs) (λ c. search needs) (λ c κs. search needs) (λ c. search needs) divide-meant-requires
+    (λ c. search needs) returns divide-program-requires returns-2 (λ c. search needs) returns-3)

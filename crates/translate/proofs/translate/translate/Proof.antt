@@ -26,21 +26,25 @@ bytes c i = c .before .before .shared-slice-known .given i .fits
 held : (c : tie.After-known-told2) → (let a = start-of (read-of c) .args in holdingOf (items (a .lim) (now (a .s)))) ≡ Holding.All (c .before .file2 .given .0 .0)
 held c = sym (read-of c .read-items .ensures) ∙ c .before .file2 .given .1
 
-translate-sheets-requires : tie.Need-translate-sheets-requires
-translate-sheets-requires c κs =
-    let at-told = c .before .before .before in
+-- what the file holds, from where an array that is not used is there
+abbrev told-of : tie.After-none → tie.After-known-told2
+told-of c = c .before .before .before
+
+translate-meant-requires : tie.Need-translate-meant-requires
+translate-meant-requires c κs =
+    let at-told = told-of (c .before) in
     let start = start-of (read-of at-told) in
     let a = start .args in
     given-file (a .lim) (now (a .s)) (a .out .now) (start .pre .0) (bytes (read-of at-told)) _ (held at-told) (start .pre .1)
 
 returns : tie.Need-returns
 returns c =
-    let at-sheets = c .before .before in
-    let at-told = at-sheets .before .before .before .before in
+    let at-meant = c .before .before .before in
+    let at-told = told-of (at-meant .before .before) in
     let start = start-of (read-of at-told) in
     let a = start .args in
     file-met (a .lim) (now (a .s)) (a .out .now) (start .pre .0) (bytes (read-of at-told)) _ (held at-told) (start .pre .1)
-    (at-sheets .translate-sheets .ensures)
+    (at-meant .translate-meant .ensures)
 
 write-translation-requires : tie.Need-write-translation-requires
 write-translation-requires c κs =
@@ -68,5 +72,5 @@ returns-3 c =
 
 pub translate-spec : {M : Type 1} → statement M
 translate-spec =
-    tie.close (tie.spec (λ c κs. search needs) (λ c. search needs) (λ c. search needs) (λ c κs. search needs) translate-sheets-requires (λ c. search needs)
-    returns write-translation-requires returns-2 (λ c. search needs) returns-3)
+    tie.close (tie.spec (λ c κs. search needs) (λ c. search needs) (λ c. search needs) (λ c κs. search needs) (λ c. search needs) translate-meant-requires
+    (λ c. search needs) returns write-translation-requires returns-2 (λ c. search needs) returns-3)
