@@ -2,7 +2,7 @@
 //! same order, the same bytes, the same word.
 
 use crate::limits::{Limits, PLAIN, SOURCE};
-use crate::plain_reader::{is_literal, number, read, read_whole, refusal};
+use crate::plain_reader::{is_wrong, number, ranges, read, read_whole, refusal};
 use crate::plain_sheets::{Appended, APPENDED};
 use crate::plain_translator::{mark, Out};
 use crate::writer::{end_record, literal, rule_size, set_header, set_size, sheet_size};
@@ -46,10 +46,10 @@ fn set_literals(most: usize, set: &[u8]) -> Result<&[u8], u64> {
 /// The set, of `most` literals at most, or the refusal.
 pub fn read_set<'a>(limits: &Limits, most: usize, set: &'a [u8]) -> Result<Set<'a>, u64> {
     let bytes = set_literals(most, set)?;
-    let mut last = 0;
+    let (ranges, mut last) = (ranges(limits), 0);
     for (i, literal) in bytes.chunks_exact(LITERAL).enumerate() {
         let key = key(literal);
-        if !is_literal(limits, literal) || last >= key {
+        if is_wrong(&ranges, literal) || last >= key {
             return Err(refusal(11, set_size(i)));
         }
         last = key;
@@ -185,10 +185,10 @@ fn write_extension(program: &[u8], set: &[u8], out: &mut [u8]) -> Result<usize, 
 
 fn write_restriction(set: &[u8], out: &mut [u8]) -> Result<usize, u64> {
     let bytes = set_literals(PLAIN.set, set)?;
-    let mut before = 0;
+    let (ranges, mut before) = (ranges(&PLAIN), 0);
     for (i, literal) in bytes.chunks_exact(LITERAL).enumerate() {
         let key = key(literal);
-        if !is_literal(&PLAIN, literal) || key <= before {
+        if is_wrong(&ranges, literal) || key <= before {
             return Err(refusal(11, set_size(i)));
         }
         before = key;
