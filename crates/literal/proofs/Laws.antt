@@ -1,3 +1,4 @@
 pub mod Literal
 pub mod Order
 pub mod Fields
+pub mod Sign

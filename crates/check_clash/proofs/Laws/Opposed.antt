@@ -8,13 +8,15 @@ use mathlib.Core.List.{List, [], _∷_, _++_}
 use mathlib.Core.Option.{Option, none, some}
 use lib.ListN.{length, drop}
 use Rattle.buffer.specs.Bytes.{Bytes}
-use Rattle.buffer.proofs.Laws.Bytes.{number-twoBytes, bytes-drop}
+use Rattle.buffer.proofs.Laws.Bytes.{bytes-drop}
 use Rattle.literal.specs.declared.Limits.{Limits}
+use Rattle.literal.specs.declared.SignedAtom.{SignedAtom}
 use Rattle.literal.specs.declared.SignedAtom.the-variants.{Positive, Negative}
 use Rattle.literal.specs.declared.Literal.{Literal}
 use Rattle.literal.specs.declared.Literal.the-variants.{Signed, Defeated, Derived, RuleDefeated}
-use Rattle.literal.specs.Literal.{kind, tagField, atomField, encoded, negatedKind, signedAtom, opposite}
+use Rattle.literal.specs.Literal.{kind, tagField, atomField, encoded, opposite}
 use Rattle.literal.proofs.Laws.Literal.{encoded-fits}
+use Rattle.literal.proofs.Laws.Sign.{option-first}
 use Rattle.semantics.specs.Set.{setOf}
 use Rattle.semantics.specs.Verdict.{opposed, clashFrom}
 use Rattle.semantics.proofs.Laws.Verdict.{clash-some}
@@ -33,12 +35,12 @@ positionOf (some k) = k
 module _ (F : Limits) (most : ℕ) (s : List ℕ) (ls : List Literal) (bytes : Bytes s) (e : parsedSet F most s ≡ accepted ls) where
   -- the literal at the start of a slice
   opposed-encoded : (l : Literal) (rest : List ℕ) → Bytes (encoded l ++ rest) → opposedIn s (length ls) (encoded l ++ rest) ≡ opposed (setOf ls) l
-  unfolding opposedIn opposed encoded kind tagField atomField opposite signedAtom negatedKind
+  unfolding opposedIn opposed encoded kind tagField atomField opposite
   opposed-encoded (Signed (Positive a)) rest b =
-      ap (λ (n : ℕ). keySet s (length ls) (Signed (Negative (record { 0 = n })))) (number-twoBytes (a .0))
+      ap (λ (x : SignedAtom). keySet s (length ls) (Signed (opposite x))) (option-first (Positive a) rest)
       ∙ read-agree F most s ls bytes e (Signed (Negative a)) (encoded-fits (Signed (Positive a)) rest b)
   opposed-encoded (Signed (Negative a)) rest b =
-      ap (λ (n : ℕ). keySet s (length ls) (Signed (Positive (record { 0 = n })))) (number-twoBytes (a .0))
+      ap (λ (x : SignedAtom). keySet s (length ls) (Signed (opposite x))) (option-first (Negative a) rest)
       ∙ read-agree F most s ls bytes e (Signed (Positive a)) (encoded-fits (Signed (Negative a)) rest b)
   opposed-encoded (Defeated t (Positive a)) rest b = refl
   opposed-encoded (Defeated t (Negative a)) rest b = refl

@@ -9,14 +9,13 @@ use mathlib.Core.List.{List, [], _∷_, _++_, map, append-assoc}
 use lib.ListN.{length, getD, take, drop, length-append, length-map}
 use lib.Seq.{drop-drop, drop-at, getD-drop}
 use Rattle.buffer.specs.Bytes.{number, numberAt}
-use Rattle.buffer.proofs.Laws.Bytes.{number-twoBytes}
 use Rattle.literal.specs.declared.Tag.{Tag}
 use Rattle.literal.specs.declared.SignedAtom.{SignedAtom}
-use Rattle.literal.specs.declared.SignedAtom.the-variants.{Positive, Negative}
 use Rattle.literal.specs.declared.Literal.{Literal}
 use Rattle.literal.specs.declared.Literal.the-variants.{Signed}
-use Rattle.literal.specs.Literal.{atomNumber, kind, atomField, encoded, negatedKind, signedAtom}
+use Rattle.literal.specs.Literal.{encoded, signedAtom}
 use Rattle.literal.proofs.Laws.Literal.{length-encoded}
+use Rattle.literal.proofs.Laws.Sign.{option-first}
 use Rattle.semantics.specs.Rule.{defeasible}
 use Rattle.record.specs.Header.{headCount, positiveCount, nafCount}
 use Rattle.record.specs.Layout.{encodedLiterals}
@@ -45,17 +44,6 @@ module _ (s : List ℕ) where
   unfolding optionsAt
   options-none at zero h = refl
   options-none at (suc n) h = absurd (omega arith)
-
--- an option's kind and atom spell it
-option-spelled : (a : SignedAtom) → signedAtom (kind (Signed a)) (atomNumber a) ≡ a
-unfolding signedAtom kind negatedKind
-option-spelled (Positive a) = refl
-option-spelled (Negative a) = refl
-
--- its five bytes spell it, whatever stands behind them
-option-first : (a : SignedAtom) (rest : List ℕ) → signedAtom (getD (encoded (Signed a) ++ rest) 0 0) (numberAt (encoded (Signed a) ++ rest) 3) ≡ a
-unfolding encoded atomField
-option-first a rest = ap (signedAtom (kind (Signed a))) (number-twoBytes (atomNumber a)) ∙ option-spelled a
 
 -- an option at a place is one at the start of the part
 option-drop : (s : List ℕ) (at : ℕ) → optionAt s at ≡ signedAtom (getD (drop at s) 0 0) (numberAt (drop at s) 3)
