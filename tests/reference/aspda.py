@@ -152,6 +152,11 @@ class Opposition(NamedTuple):
     second: Literal
 
 
+def is_negated(literal):
+    """Is it a negated atom, or a mark of one? Odd kinds are; the rule-defeated mark has no sign."""
+    return literal.kind % 2 == 1
+
+
 def atom(number):
     return Literal(KIND_ATOM, 0, number)
 
@@ -162,12 +167,12 @@ def negated(number):
 
 def defeated(tag, literal):
     """The defeat mark of a tag with an atom or a negated atom."""
-    return Literal(KIND_DEFEATED + literal.kind, tag, literal.atom)
+    return Literal(KIND_DEFEATED + is_negated(literal), tag, literal.atom)
 
 
 def derived(tag, literal):
     """The derivation mark of a tag with an atom or a negated atom."""
-    return Literal(KIND_DERIVED + literal.kind, tag, literal.atom)
+    return Literal(KIND_DERIVED + is_negated(literal), tag, literal.atom)
 
 
 def rule_defeated(number):
@@ -198,7 +203,7 @@ def is_of_form(form, literal):
 def opposite(literal):
     """The explicit negation of an atom and back; marks have none."""
     if literal.kind in (KIND_ATOM, KIND_NEGATED):
-        return Literal(1 - literal.kind, literal.tag, literal.atom)
+        return (atom if is_negated(literal) else negated)(literal.atom)
     return None
 
 
@@ -539,7 +544,7 @@ def aspif_rule(heads, body):
 
 def aspif_name(literal):
     """The name of an atom or a negated atom."""
-    return f"{'p' if literal.kind == KIND_ATOM else 'n'}{literal.atom}"
+    return f"{'n' if is_negated(literal) else 'p'}{literal.atom}"
 
 
 def aspif_statements(rules):

@@ -14,15 +14,16 @@ sys.dont_write_bytecode = True
 import samples
 from aspda import (APPENDED_RULE, ASPIF_BEYOND, ASPIF_TIMES_LONGER, ATOMS, BROKEN,
                    BRUTE_FORCE_LITERALS, CHECKED_LITERALS, CLASH, LAST_ATOM, LAST_NUMBERED_RULE,
-                   LAST_TAG, PLAIN, REFUSED, SMALLER, SOURCE, TIMES_LONGER, YES, Opposition,
-                   Override, Remainder, answer_sets, appended_rules, aspif, aspif_text, atom,
-                   check_plain, check_source, defeasible, defeated, derived, encoded_item,
+                   LAST_TAG, PLAIN, REFUSED, SMALLER, SOURCE, TIMES_LONGER, YES, Literal,
+                   Opposition, Override, Remainder, answer_sets, appended_rules, aspif, aspif_text,
+                   atom, check_plain, check_source, defeasible, defeated, derived, encoded_item,
                    encoded_literals, encoded_program, encoded_set, expanded, extend, extension,
                    filter, first_smaller_by_brute_force, first_smaller_by_search, is_answer_set,
-                   is_interpretation, is_model, negated, numbering, opposite, proper_subsets,
-                   quotient, quotient_plain, quotient_source, read_items, read_plain, read_rules,
-                   read_source, restrict, restriction, rule_defeated, show_plain, show_source,
-                   strict, subsets, sum_length, translate, translation, written_rules)
+                   is_interpretation, is_model, is_negated, negated, numbering, opposite,
+                   proper_subsets, quotient, quotient_plain, quotient_source, read_items,
+                   read_plain, read_rules, read_source, restrict, restriction, rule_defeated,
+                   show_plain, show_source, strict, subsets, sum_length, translate, translation,
+                   written_rules)
 
 SEED = 20_240_601
 MATCHED_SOURCES = 400
@@ -145,13 +146,15 @@ def marked_examples_6_to_9(tally):
 
 
 def kinds_of_literals(tally):
-    """Each kind's bytes: kind, tag, atom."""
+    """Each kind's bytes: kind, tag, atom. And which kinds are negated: not 6."""
     for text, literal in (
             ("00 00 00 01 F4", atom(500)), ("01 00 00 00 01", negated(1)),
             ("02 00 C8 00 02", defeated(200, atom(2))), ("03 00 01 00 02", defeated(1, negated(2))),
             ("04 00 C8 00 02", derived(200, atom(2))), ("05 00 01 00 02", derived(1, negated(2))),
             ("06 00 00 01 00", rule_defeated(256))):
         tally.same(f"bytes of {literal}", encoded_literals([literal]), bytes.fromhex(text))
+    tally.same("kinds of negated atoms and their marks",
+               [kind for kind in PLAIN.kinds if is_negated(Literal(kind, 0, 1))], [1, 3, 5])
     rule = strict([atom(1)], [negated(2)], [defeated(3, atom(4))])
     tally.same("bytes of a rule", encoded_program([rule]), bytes.fromhex(
         "53 3A 00 00 01 01 01 00 00 00 00 01 01 00 00 00 02 02 00 03 00 04 45 3A 00 01"))

@@ -262,12 +262,12 @@ Rule strict(Literals head, Literals positive, Literals naf)
 
 Literal defeat_mark(unsigned tag, const Literal &option)
 {
-    return {option.kind == atom ? defeated : defeated_negated, tag, option.number};
+    return {is_negated(option.kind) ? defeated_negated : defeated, tag, option.number};
 }
 
 Literal derivation_mark(unsigned tag, const Literal &option)
 {
-    return {option.kind == atom ? derived : derived_negated, tag, option.number};
+    return {is_negated(option.kind) ? derived_negated : derived, tag, option.number};
 }
 
 Literal rule_defeated_mark(std::size_t number)
@@ -397,7 +397,7 @@ private:
     {
         for (const Literal &literal : numbered) {
             if (literal.kind > negated) continue;
-            std::string name = (literal.kind == atom ? "p" : "n") + std::to_string(literal.number);
+            std::string name = (is_negated(literal.kind) ? "n" : "p") + std::to_string(literal.number);
             line = "4";
             put(name.size());
             put(name);
@@ -613,7 +613,7 @@ std::uint64_t verdict_word(Verdict verdict, std::uint64_t value)
 
 bool has_opposite_in(const Literals &set, const Literal &literal)
 {
-    return is_option(literal) && contains(set, {literal.kind == atom ? negated : atom, 0, literal.number});
+    return is_option(literal) && contains(set, {is_negated(literal.kind) ? atom : negated, 0, literal.number});
 }
 
 std::uint64_t judge(const Program &program, const Literals &set, Bytes &buffer)

@@ -17,6 +17,14 @@ enum class Form { source, plain };
 
 enum Kind : unsigned { atom, negated, defeated, defeated_negated, derived, derived_negated, rule_defeated };
 
+// Whether a kind is a negated atom's or that of a mark of one (document 02, ask 3).
+constexpr bool is_negated(unsigned kind)
+{
+    return kind % 2 == 1;
+}
+static_assert(!is_negated(atom) && is_negated(negated) && !is_negated(defeated) && is_negated(defeated_negated));
+static_assert(!is_negated(derived) && is_negated(derived_negated) && !is_negated(rule_defeated));
+
 // A form's row of limits (document 01, "Source form and plain form", as document 02's ask 2 changes it).
 struct Limits {
     std::size_t length, rules, head, positive, naf;

@@ -23,7 +23,7 @@ sys.dont_write_bytecode = True
 sys.path.insert(0, str(Path(__file__).resolve().parent.parent / "reference"))
 
 from aspda import (KIND_ATOM, KIND_DEFEATED, KIND_DERIVED, KIND_NEGATED,         # noqa: E402
-                   KIND_RULE_DEFEATED, PLAIN, Literal, Refusal, negated, read_rules)
+                   KIND_RULE_DEFEATED, PLAIN, Literal, Refusal, is_negated, negated, read_rules)
 
 # Without these two Debian's clingo is wrong on some disjunctive programs: see traps.py.
 SOUND_OPTIONS = ("--no-gamma", "--eq=0")
@@ -48,7 +48,7 @@ def name_of(literal):
     """A literal's name."""
     if literal.kind == KIND_RULE_DEFEATED:
         return f"r{literal.atom}"
-    sign = SIGNS[literal.kind % 2]
+    sign = SIGNS[is_negated(literal)]
     if literal.kind in (KIND_ATOM, KIND_NEGATED):
         return f"{sign}{literal.atom}"
     mark = "d" if literal.kind < KIND_DERIVED else "e"

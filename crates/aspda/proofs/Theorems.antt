@@ -4,19 +4,23 @@ use native.Mathlib.Omega.{arith}
 use native.Mathlib.Nat.{zero-add}
 use mathlib.Core.Path.{_≡_, refl, sym, _∙_, ap}
 use mathlib.Core.List.{List}
-use mathlib.Core.Bool.{Bool}
+use mathlib.Core.Bool.{Bool, cond, not}
 use mathlib.Core.Logic.{_↔_}
 use lib.Dec.{T, ltb}
-use lib.ListN.{length, take, drop}
+use lib.ListN.{length, getD, take, drop}
 use borrow.Author.Tests.{le-ltb}
 use Rattle.buffer.specs.Bytes.{Bytes}
 use Rattle.buffer.specs.Write.{write}
 use Rattle.buffer.proofs.Laws.Write.{take-write, drop-write}
 use Rattle.literal.specs.declared.Limits.{Limits}
+use Rattle.literal.specs.declared.SignedAtom.{SignedAtom}
+use Rattle.literal.specs.declared.SignedAtom.the-variants.{Positive, Negative}
 use Rattle.literal.specs.declared.Literal.{Literal}
-use Rattle.literal.specs.Literal.{mostKind, takes}
+use Rattle.literal.specs.declared.Literal.the-variants.{Signed}
+use Rattle.literal.specs.Literal.{mostKind, takes, kind, negative, negated, negatedKind, opposite}
 use Rattle.literal.specs.Limits.{source, plain}
-use Rattle.literal.proofs.Laws.Literal.{Fits, TwoBytes}
+use Rattle.literal.proofs.Laws.Literal.{Fits, TwoBytes, decoded-kind}
+use Rattle.literal.proofs.Laws.Sign.{negated-kinds, kind-sign, opposite-sign}
 use Rattle.semantics.specs.Set.{eachOf, setOf}
 use Rattle.semantics.specs.Rule.{Program}
 use Rattle.semantics.specs.Expansion.{sameDefeat, defeatRule, heads, madeWay, madePair, madeBy, made, unlessBefore, appended}
@@ -58,6 +62,7 @@ use Rattle.inputs.specs.Inputs.{withInputs}
 use Rattle.translate.specs.Translate.{translatedBytes, translated}
 use Rattle.quotient.specs.Quotient.{quotientProgram, quotientBytes, quotiented}
 use Rattle.quotient.proofs.Laws.Plain.{Within, quotient-read, source-within, plain-within}
+use Rattle.aspif_text.specs.Text.{nameText}
 use Rattle.extend.specs.Extend.{extensionList, extensionBytes, extended}
 use Rattle.extend.specs.Code.{most}
 use Rattle.extend.proofs.Laws.Extend.{extension-list, extension-ascending-form}
@@ -73,7 +78,7 @@ use Rattle.check_set.specs.Verdict.{verdictOf, witness}
 use Rattle.check_set.specs.Check.{found, Checked, checkedOf, checked}
 use Rattle.aspda_word.specs.Words.{ToldWritten}
 use Rattle.aspda.specs.Example.{exampleOptions, exampleSheets, exampleDefeats}
-use Rattle.aspda.specs.Claims.{Means, Reading, Expanding, Quotients, Quotient, Extending, Checks, Checking, Shows, Showing, Translates, Translating, Exporting, Tells, Words}
+use Rattle.aspda.specs.Claims.{Means, Reading, Signing, Expanding, Quotients, Quotient, Extending, Checks, Checking, Shows, Showing, Translates, Translating, Exporting, Tells, Words}
 use Rattle.aspda.proofs.Laws.Lengths.{program-wide, quotient-no-longer, quotient-unsheeted, extension-at-most, restriction-no-longer}
 use Rattle.aspda.proofs.Laws.Fit.{rules-fit}
 use Rattle.aspda.proofs.Laws.Exports.{names-of-text, text-bound, text-match, text-exports, exported-told}
@@ -92,6 +97,27 @@ reading =
       reads-plain-program = reading-iff plain plain-unsheeted;
       reads-source-set = set-reading-iff source;
       reads-plain-set = set-reading-iff plain;
+    }
+
+-- the sign of an option's kind is the option's
+option-sign : (a : SignedAtom) → negatedKind (kind (Signed a)) ≡ negative a
+unfolding negated
+option-sign a = kind-sign (Signed a)
+
+-- a name's first byte goes by the sign
+name-sign : (a : SignedAtom) → getD (nameText a) 0 0 ≡ cond (negative a) 0x6E 0x70
+unfolding nameText negative
+name-sign (Positive a) = refl
+name-sign (Negative a) = refl
+
+pub signing : Signing
+signing =
+    record {
+      kinds = negated-kinds;
+      written = kind-sign;
+      read = λ F bs l e. ap negatedKind (decoded-kind F bs l e) ∙ kind-sign l;
+      opposed = λ a. option-sign (opposite a) ∙ opposite-sign a ∙ ap not (sym (option-sign a));
+      named = λ a. name-sign a ∙ ap (λ (b : Bool). cond b 0x6E 0x70) (sym (option-sign a));
     }
 
 pub expanding : Expanding

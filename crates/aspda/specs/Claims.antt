@@ -1,18 +1,22 @@
 -- What is to be believed of the library, as types in the order of its demands. `proofs/Theorems.antt` proves each.
 -- The functions' contracts say that they answer what the definitions give, so these claims are about the functions.
--- In order: reading; what sheets append; quotients; extension and restriction; the check; show; translating; exporting; words.
+-- In order: reading; signs; what sheets append; quotients; extension and restriction; the check; show; translating; exporting; words.
 -- Assumes nothing.
 use Prim.Native.Nat.{ℕ, _+_, _*_, _≤_}
 use mathlib.Core.Path.{_≡_}
 use mathlib.Core.Logic.{_↔_}
+use mathlib.Core.Bool.{cond, not, _||_}
 use mathlib.Core.List.{List, _∷_, _++_, map}
 use mathlib.Core.Option.{some}
-use lib.Dec.{T}
-use lib.ListN.{length, take, drop}
+use lib.Dec.{T, eqb}
+use lib.ListN.{length, getD, take, drop}
 use Rattle.buffer.specs.Bytes.{Bytes}
 use Rattle.buffer.specs.Write.{write}
 use Rattle.literal.specs.declared.Limits.{Limits}
+use Rattle.literal.specs.declared.SignedAtom.{SignedAtom}
 use Rattle.literal.specs.declared.Literal.{Literal}
+use Rattle.literal.specs.declared.Literal.the-variants.{Signed}
+use Rattle.literal.specs.Literal.{kind, negated, negatedKind, Valid, decoded, opposite}
 use Rattle.literal.specs.Limits.{source, plain}
 use Rattle.semantics.specs.Set.{setOf}
 use Rattle.semantics.specs.Rule.{Rule, Program}
@@ -40,7 +44,7 @@ use Rattle.quotient.specs.Quotient.{quotientProgram, quotiented}
 use Rattle.aspif_meaning.specs.Numbering.{numberOf}
 use Rattle.aspif_meaning.specs.Program.{names}
 use Rattle.aspif_meaning.specs.Match.{NumberMatch}
-use Rattle.aspif_text.specs.Text.{Statement, outputOf, statements, aspifText}
+use Rattle.aspif_text.specs.Text.{Statement, nameText, outputOf, statements, aspifText}
 use Rattle.aspif_text.specs.Reading.{says, rulesOf, outputsOf}
 use Rattle.aspif.specs.Aspif.{exported}
 use Rattle.extend.specs.Extend.{extensionList, extended}
@@ -78,6 +82,20 @@ pub record Reading : Type 0 where
   pub reads-plain-program : ReadsProgram plain
   pub reads-source-set : ReadsSet source
   pub reads-plain-set : ReadsSet plain
+
+-- 02's Ask 3: the sign that a kind gives goes by its remainder by 2. 01's kinds keep theirs, and every other place where a sign is
+-- told agrees
+pub record Signing : Type 0 where
+  -- 0 an atom, 1 an explicitly negated atom, 2 to 5 their marks likewise; 6, the rule-defeated mark, counts as positive
+  pub kinds : (k : ℕ) → k ≤ 6 → negatedKind k ≡ (eqb k 1 || eqb k 3 || eqb k 5)
+  -- a literal is written with a kind of its own sign, a mark with one of its atom's
+  pub written : (l : Literal) → negatedKind (kind l) ≡ negated l
+  -- five bytes that a form takes are read as a literal of their kind's sign
+  pub read : (F : Limits) (bs : List ℕ) (l : Literal) → decoded F bs ≡ Valid l → negatedKind (getD bs 0 0) ≡ negated l
+  -- what clashes with an atom has the other sign
+  pub opposed : (a : SignedAtom) → negatedKind (kind (Signed (opposite a))) ≡ not (negatedKind (kind (Signed a)))
+  -- an export's name starts with `n` for a negated atom, and with `p` else
+  pub named : (a : SignedAtom) → getD (nameText a) 0 0 ≡ cond (negatedKind (kind (Signed a))) 0x6E 0x70
 
 -- 02's Ask 2: what the sheets of a file append to its written rules
 pub record Expanding : Type 0 where

@@ -1,9 +1,9 @@
 -- A literal and its five bytes (01, "Records": kind, tag, atom), in either form.
--- In order: a literal's three fields and its bytes; the literals that a form takes; what five bytes spell in a form; opposite
--- literals. Not here: the order of literals (`Order`), the forms' figures (`Limits`), how code asks (`Code`).
+-- In order: a literal's three fields and its bytes; signs, a literal's and a kind's; the literals that a form takes; what five bytes
+-- spell in a form; opposite literals. Not here: the order of literals (`Order`), the forms' figures (`Limits`), how code asks (`Code`).
 -- Assumes nothing.
-use Prim.Native.Nat.{ℕ}
-use mathlib.Core.Bool.{Bool, cond, _&&_, _||_}
+use Prim.Native.Nat.{ℕ, _%_}
+use mathlib.Core.Bool.{Bool, true, false, cond, _&&_}
 use mathlib.Core.List.{List, _∷_, _++_}
 use lib.Dec.{leb, eqb}
 use lib.ListN.{getD}
@@ -21,7 +21,8 @@ abbrev pub atomNumber : SignedAtom → ℕ
 atomNumber (Positive a) = a .0
 atomNumber (Negative a) = a .0
 
--- the first field
+-- the first field (01: 0 an atom, 1 an explicitly negated atom; 2 and 3 the defeat mark of either, 4 and 5 the derivation mark; 6 the
+-- rule-defeated mark)
 unfoldable pub kind : Literal → ℕ
 kind (Signed (Positive a)) = 0
 kind (Signed (Negative a)) = 1
@@ -49,9 +50,21 @@ atomField (RuleDefeated n) = n .0
 unfoldable pub encoded : Literal → List ℕ
 encoded l = kind l ∷ (twoBytes (tagField l) ++ twoBytes (atomField l))
 
--- the kinds that carry a sign are negated where they are odd
+-- the sign of an atom
+unfoldable pub negative : SignedAtom → Bool
+negative (Positive a) = false
+negative (Negative a) = true
+
+-- and of the atom in a literal; the rule-defeated mark has none and counts as positive
+unfoldable pub negated : Literal → Bool
+negated (Signed a) = negative a
+negated (Defeated t a) = negative a
+negated (Derived t a) = negative a
+negated (RuleDefeated n) = false
+
+-- the sign that a kind gives, by its remainder by 2 (02, Ask 3): on 01's kinds it is that of their literals (`negated-kinds`, `kind-sign`)
 unfoldable pub negatedKind : ℕ → Bool
-negatedKind k = eqb k 1 || eqb k 3 || eqb k 5
+negatedKind k = eqb (k % 2) 1
 
 -- from 1 to a largest value
 abbrev pub inRange : ℕ → ℕ → Bool

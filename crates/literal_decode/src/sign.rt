@@ -5,14 +5,11 @@ use literal::SignedAtom;
 ghost use mathlib.Core.Path.{_≡_};
 ghost use Rattle.literal.specs.Literal.{negatedKind, signedAtom};
 
-// Kinds 1, 3 and 5 are those of negated atoms.
+// Kinds 1, 3 and 5 are those of negated atoms; 6 counts as positive.
 fn is_negated(kind: u8) -> bool
     ensures { λ r. ⌜ r ≡ negatedKind kind ⌝ }
 {
-    match kind {
-        1 | 3 | 5 => true,
-        _ => false,
-    }
+    kind % 2 == 1
 }
 
 // The atom with the sign of the kind.
