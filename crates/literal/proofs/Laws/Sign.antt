@@ -1,4 +1,5 @@
--- Laws of signs. Other crates know the sign that a kind gives by these, and not how it is told.
+-- Laws of signs. By these other crates know the sign that a kind gives; how it is told, only the step that tells it (`literal_decode`)
+-- and the computed examples look at.
 -- In order: the signs of kinds 0 to 6; of literals by their kinds; of opposites; an option by its kind and atom, and by its five bytes.
 -- Assumes nothing.
 use Prim.Native.Nat.{ℕ, zero, suc, _≤_}
