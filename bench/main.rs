@@ -2,6 +2,7 @@
 //! programs; how time grows with a program; how long translations are. Both programs are built for release; the ratio is the proved code's speed over the
 //! plain one's.
 
+mod assembly;
 mod checks;
 mod drawn;
 #[path = "../rust/aspda/src/exports.rs"]
@@ -11,6 +12,7 @@ mod growth;
 mod limits;
 mod output_sizes;
 mod plain_aspif;
+mod plain_assembly;
 mod plain_check;
 mod plain_reader;
 mod plain_sets;
@@ -137,6 +139,7 @@ fn main() {
     texts::rows();
     checks::rows();
     sheets::rows();
+    assembly::rows();
     growth::rows();
     output_sizes::rows();
 }

@@ -5,7 +5,7 @@
  * that a call writes to overlaps none of the others. The functions read and write nothing but the slices that they are
  * lent and their stack (of a source without preference sheets 22 KiB in the check, 1 KiB in translate and the quotient; with
  * sheets 356 KiB in the check, 220 KiB in translate and the quotient; 348 KiB in the check of a plain program, 65 KiB in extend,
- * 92 KiB in aspif, 1 KiB elsewhere), keep no state and take no other memory.
+ * 92 KiB in aspif, 1 KiB elsewhere), keep no state of their own (an assembly's is the caller's) and take no other memory.
  */
 #ifndef ASPDA_H
 #define ASPDA_H
@@ -99,6 +99,56 @@ uint64_t aspda_show_plain(const uint8_t *p, size_t n, uint32_t rule);
 
 #define ASPDA_SHOWN_START(word) ((uint32_t)((word) >> 32))
 #define ASPDA_SHOWN_LENGTH(word) ((uint32_t)(word))
+
+/* Assembly: a source is built in a lent buffer out[0 .. m), rule by rule. What is held so far stands in a state, which is the
+ * caller's: state[0 .. k) with k = ASPDA_STATE bytes, which may be copied and kept as any bytes may. All zero bytes are a state
+ * before the first begin. Bytes that no call gives back count as such, for every call.
+ *
+ * An accepted begin, add, drop or close answers the number of rules then held and changes the state; a refused call changes
+ * no byte of state or out. Answers and states depend on the state and the record given and on m, never on the bytes of out.
+ * Refusals come in the order in which they are told here. For each of these four calls the first is 15, place 0: if k is not
+ * ASPDA_STATE; and of all but begin, if nothing is open, that is before the first accepted begin or after closing.
+ *
+ * If every call since the last accepted begin is lent the same out and gets the state that the call before gave back, and
+ * only these calls write to out, then after an accepted close aspda_read_source accepts out[0 .. aspda_assembled(state, k)),
+ * and aspda_show_source gives exactly the rules that were added since and not dropped, in order. */
+#define ASPDA_STATE 520
+
+/* A buffer in which no begin, add or close is refused with 9: 256 rules of 247 bytes, and an end record. */
+#define ASPDA_ASSEMBLY_BOUND (256 * 247 + 4)
+
+/* Starts afresh: open, no rule held; 0 is answered. Any ASPDA_STATE bytes will do; what an open assembly held is given up.
+ * Refused with 9, place 0, if m is below 4, the length of an end record. Only the length of out counts: it is not written
+ * to. */
+uint64_t aspda_begin(uint8_t *state, size_t k, const uint8_t *out, size_t m);
+
+/* Adds the rule whose S: or D: record starts at record[0]; bytes behind the record are not looked at. The record is written
+ * to out behind those that are held, and nothing else is. It is refused as reading a source would refuse it behind the rules
+ * held, its places counted in record[0 .. r):
+ *
+ *     2    fewer than two bytes
+ *     3    any mark but S: and D:, of a preference sheet and of an end record too
+ *     2    fewer than 7 bytes
+ *     4    256 rules are held
+ *     6    the tag: S: has 0, D: 1 to 200
+ *     4    more than 16 head, positive or naf literals
+ *     2    the literals are cut
+ *     5    a literal's kind, tag or atom, at its first byte
+ *     7    a defeasible rule without head, or with a defeat mark in its head
+ *     9    m is below the length of the records held, this one and an end record; place 0 */
+uint64_t aspda_add(uint8_t *state, size_t k, const uint8_t *record, size_t r, uint8_t *out, size_t m);
+
+/* Drops the last of the rules held. Refused with 15, place 0, also if none is held. Nothing is written to a buffer: the next
+ * add or close writes where the dropped record stood. */
+uint64_t aspda_drop(uint8_t *state, size_t k);
+
+/* Closes: the end record is written to out behind the records held, and nothing else is. The rules count as held until the
+ * next begin. Refused with 9, place 0, if m is below the length of the records held and an end record. */
+uint64_t aspda_close(uint8_t *state, size_t k, uint8_t *out, size_t m);
+
+/* The length of the records held and of an end record: after closing, that of the source in the buffer. It is never a
+ * refusal: before the first begin, and for what is no state, of another length than ASPDA_STATE too, it is 4. */
+uint64_t aspda_assembled(const uint8_t *state, size_t k);
 
 #ifdef __cplusplus
 }

@@ -3,7 +3,7 @@
     python3 tests/calls.py
 
 The program calls every entry point that Rattle code has on the marked examples and on document 02's
-plain program with the fact 1. A line has the example, the function, and its answer: a number of
+plain program with the fact 1, and assembles a program. A line has the example, the function, and its answer: a number of
 rules, a place and a length, bytes (how many, and each), a verdict, or a refusal's number and place.
 """
 
@@ -14,10 +14,12 @@ sys.dont_write_bytecode = True
 sys.path.insert(0, str(Path(__file__).resolve().parent / "reference"))
 
 import samples                                                                  # noqa: E402
-from aspda import (BROKEN, CLASH, REFUSED, SET, SET_HEADER, SMALLER, STRICT,    # noqa: E402
-                   aspif, atom, check_plain, check_source, defeated, encoded_literals,
-                   encoded_program, encoded_set, extend, negated, quotient_plain, quotient_source,
+from aspda import (ASSEMBLY_STATE, BROKEN, CLASH, END, END_RECORD, REFUSED, SET,   # noqa: E402
+                   SET_HEADER, SMALLER, STRICT, add, aspif, assembled, atom, begin, check_plain,
+                   check_source, close, defeated, drop, encoded_literals, encoded_program,
+                   encoded_rule, encoded_set, extend, negated, quotient_plain, quotient_source,
                    read_plain, read_source, restrict, show_plain, show_source, translate)
+
 
 ROOM = 512      # bytes lent where nothing else is said
 LOW = 0xFFFF_FFFF
@@ -190,6 +192,37 @@ def fact():
     tell_text("fact into 34 bytes", program, 34)
 
 
+def assembly():
+    """Document 02, ask 4: M1's rule and the fact 1, and what is refused on the way."""
+    rule, fact_record = encoded_rule(samples.M1[0]), encoded_rule(samples.FACT[0])
+    state, out = bytes(ASSEMBLY_STATE), bytes(64)
+
+    def tell(example, name, answer):
+        nonlocal state
+        state = answer.state
+        print(example, f"Assembly::{name}", number(answer))
+        return answer.buffer
+
+    def tell_state(example):
+        print(example, "Assembly::measure", number(assembled(state)))
+        print(example, "state", counted(state))
+
+    tell("assembly not begun", "drop", drop(state))
+    tell_state("assembly not begun")
+    out = tell("assembly", "begin", begin(state, out=out))
+    out = tell("assembly", "add", add(state, rule, out=out))
+    tell("assembly into 27 bytes", "add", add(state, fact_record, out=bytes(27)))
+    out = tell("assembly", "add", add(state, fact_record, out=out))
+    out = tell("assembly", "add", add(state, rule, out=out))
+    tell("assembly", "drop", drop(state))
+    out = tell("assembly end record", "add", add(state, END_RECORD.pack(END, 2), out=out))
+    tell_state("assembly")
+    out = tell("assembly", "close", close(state, out=out))
+    tell_state("assembly closed")
+    tell_program("assembled", out[:assembled(state).word])
+    tell("assembly closed", "add", add(state, rule, out=out))
+
+
 if __name__ == "__main__":
     marked_example_1()
     marked_example_2()
@@ -198,3 +231,4 @@ if __name__ == "__main__":
     marked_example_6()
     marked_examples_7_to_9()
     fact()
+    assembly()

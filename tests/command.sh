@@ -1,6 +1,6 @@
 #!/usr/bin/env bash
-# The built command, end to end: every command with text and with bytes, M3 whole, preference sheets, each refusal, help, exit
-# statuses.
+# The built command, end to end: every command with text and with bytes, M3 whole, preference sheets, assembly, each refusal,
+# help, exit statuses.
 # The binary is $ASPDA, else target/rust/release/aspda (tests/wrappers.sh builds it).
 set -euo pipefail
 root=$(cd "$(dirname "${BASH_SOURCE[0]}")/.." && pwd)
@@ -434,7 +434,113 @@ complains 'open.plain.txt: line 1, column 2: `or`, `if` or `.` expected, and not
 status=0
 "$aspda" aspif m3.plain >/dev/full 2>.err || status=$?
 [ $status = 2 ] || fail "aspif to a full device: exit status $status, not 2"
+
+# Assembly: the rules of files, each added by itself, as text and as bytes, from files and from standard input.
+head -c -4 m3.aspda >m3.rules
+for source in m3.txt m3.rules; do
+    gives "" assemble $source -o made.aspda
+    same made.aspda m3.aspda
+done
+run 0 assemble - -o - <m3.rules
+same .out m3.aspda
+gives "" convert m3.aspda -o listed.txt
+gives "$(cat listed.txt)" assemble m3.rules
+gives "" assemble m3.rules -o made.txt
+same made.txt listed.txt
+: >nothing
+gives "" assemble nothing nothing -o none.aspda
+printf 'E:\0\0' | cmp - none.aspda || fail "none.aspda differs"
+cat >names.txt <<'KIT'
+atom 12 = servo_x. atom 13 = stepper_x.
+tag 3 = drive_x.
+servo_x. % taken back below, in another file
+KIT
+cat >edited.txt <<'KIT'
+drop.
+atom 12 = servo_x. % again, as it is
+tag drive_x: servo_x
+    or stepper_x.
+never if servo_x. drop. drop.
+tag drive_x: servo_x or -stepper_x.
+KIT
+printf 'S:\0\0\0\0\0' >never.rules
+gives "atom 12 = servo_x.
+atom 13 = stepper_x.
+tag 3 = drive_x.
+
+tag drive_x: servo_x or -stepper_x.  % rule 1
+never.  % rule 2
+never.  % rule 3" assemble names.txt edited.txt never.rules never.rules
+echo 'atom 5 = drop. drop. drop if -drop.' >named.txt
+gives "" assemble named.txt -o made.aspda
+gives "" convert named.txt -o again.aspda
+same made.aspda again.aspda
+
+# What cannot be added is told with its line, or with its record's number and first byte; what is wrong in terms of the text.
+refused_rules() { # NUMBER PLACE FILE ENDING ARGUMENTS: assemble refuses the file, and the message ends so
+    local number=$1 place=$2 file=$3 ending=$4
+    shift 4
+    run $failure assemble "$@" -o unwritten
+    [[ "$(cat .err)" == "aspda: $file: refused with $number at byte $place: "[a-z]*"$ending" ]] && [ ! -s .out ] ||
+        fail "assemble $*: refusal $number at byte $place of $file and \"$ending\" expected"
+    reached[$number]=1
+}
+reached=()
+printf '1.\n\n tag 1 overrides tag 2.\n' >sheet.txt
+refused_rules 3 12 sheet.txt " (override, line 3); overrides and oppositions cannot be assembled" sheet.txt
+printf 'never. never. drop.\n1 and 2\noppose.\n' >sheet.txt
+refused_rules 3 7 sheet.txt " (opposition, line 2); overrides and oppositions cannot be assembled" sheet.txt
+only_rules="; rules alone can be assembled: no overrides, no oppositions, no end record"
+refused_rules 3 90 m3.aspda " (record 6, from byte 90)$only_rules" m3.aspda
+refused_rules 3 39 m3_sheets.aspda " (record 3, from byte 39)$only_rules" m3_sheets.aspda
+refused_rules 3 0 "standard input" " (record 1, from byte 0)$only_rules" m3.rules - <mark
+head -c -1 m3.rules >cut.rules
+refused_rules 2 73 cut.rules " is cut short (record 5, from byte 73)" m3.rules cut.rules
+for ((i = 0; i < rules; i++)); do echo 'never.'; done >full.txt
+gives "" assemble full.txt -o full.aspda
+gives "$rules rules, $((7 * rules + 4)) bytes" read full.aspda
+echo 'never. % one too many' >>full.txt
+most_rules="; a source has at most $rules rules"
+refused_rules 4 $((7 * rules)) full.txt " (rule $((rules + 1)), line $((rules + 1)))$most_rules" full.txt
+sed -i '$d' full.txt
+refused_rules 4 0 never.rules " (record 1, from byte 0)$most_rules" full.txt never.rules
+echo 'drop. never.' >exchanged.txt
+gives "" assemble full.txt exchanged.txt -o made.aspda
+same made.aspda full.aspda
+counts="; a source's rule has at most $most_literals head, $most_literals positive and $most_literals naf literals"
+printf '1.\n2 if not %s.\n' "$(seq -s ' and not ' $((most_literals + 1)))" >nafs.txt
+refused_rules 4 12 nafs.txt " (rule 2, line 2)$counts" nafs.txt
+ranges="; atoms run from 1 to $last_atom, tags from 1 to $last_tag; a source has no derived and no rule-defeated marks"
+printf '1.\n2\n or %s.\n' $((last_atom + 1)) >literal.txt
+refused_rules 5 24 literal.txt " (rule 2, line 2)$ranges" literal.txt
+printf 'S:\0\0\0\0\0S:\0\0\1\0\0\4\0\1\0\1' >literal.rules
+refused_rules 5 14 literal.rules " (record 2, from byte 7)$ranges" literal.rules
+echo "1. tag $((last_tag + 1)): 1." >tag.txt
+refused_rules 6 12 tag.txt " (rule 2, line 1); tags run from 1 to $last_tag, and a strict rule has tag 0" tag.txt
+echo 'tag 1: defeated(1, 2).' >mark.txt
+refused_rules 7 0 mark.txt ", or a defeat mark in its head (rule 1, line 1)" mark.txt
+printf '1. drop.\ndrop.\n' >dropped.txt
+refused_rules 15 0 dropped.txt " (drop, line 2); \`drop.\` takes back a rule that stands before it" dropped.txt
+printf '1.\n2' >open.txt
+complains 'open.txt: line 2, column 2: `or`, `if` or `.` expected, and not the end of the text' assemble open.txt
+echo 'atom 13 = servo_x.' >other.txt
+complains 'other.txt: line 1, column 11: `servo_x` is declared already, for 12' assemble names.txt other.txt -o unwritten
+complains 'nowhere.txt: No such file or directory (os error 2)' assemble m3.txt nowhere.txt -o unwritten
+complains 'nowhere/m3: No such file or directory (os error 2)' assemble m3.txt -o nowhere/m3
+complains 'RULES.. expected, 0 given; usage: aspda assemble RULES.. [-o FILE]' assemble
+complains '`--plain` has no place here; usage: aspda assemble RULES.. [-o FILE]' assemble --plain m3.txt
+complains '-o needs a file behind it; usage: aspda assemble RULES.. [-o FILE]' assemble m3.txt -o
+[ ! -e unwritten ] || fail "a refusal wrote a file"
+for number in {2..7} 15; do
+    [ "${reached[$number]:-}" ] || fail "refusal $number was not reached"
+done
+status=0
+"$aspda" assemble m3.txt >/dev/full 2>.err || status=$?
+[ $status = 2 ] || fail "assemble to a full device: exit status $status, not 2"
 failure=1
+
+# A step of an assembly is no part of a program.
+complains 'exchanged.txt: line 1, column 1: no atom is declared as `drop`' read exchanged.txt
 
 # What is no text, no file, no usage.
 printf '1 or 2.\n3' >open.txt
@@ -454,7 +560,7 @@ complains '-o OUT is missing; usage: aspda convert [--plain] IN -o OUT' convert 
 # Help: every command in the list and by itself.
 run 0 --help
 cp .out help
-for command in read show translate quotient extend restrict check convert aspif expand; do
+for command in read show translate quotient extend restrict check convert aspif expand assemble; do
     run 0 $command --help
     usage=$(head -n 1 .out)
     [[ $usage == "aspda $command "* ]] && grep -qF "$usage " help || fail "aspda $command --help"

@@ -1,7 +1,7 @@
 /* The library links from C by its header, and answers as document 01 says: M1's source has one rule, whose record is
  * the first 12 bytes, and translates into 94 bytes and 5 rules; an empty slice is refusal 2 at place 0. Document 02's
  * plain program with the fact 1 is a text of four lines; its Example 1 with preference sheets has two rules and translates
- * as M3 does. */
+ * as M3 does. M1 is assembled, and what is closed is read back. */
 #include "../include/aspda.h"
 
 #include <stdio.h>
@@ -64,6 +64,33 @@ int main(void)
     const uint8_t itself[] = {0x4F, 0x3A, 0, 7, 0, 7, 0x45, 0x3A, 0, 0};
     refused = aspda_read_source(itself, sizeof itself);
     if (ASPDA_REFUSAL_NUMBER(refused) != 14 || ASPDA_REFUSAL_PLACE(refused) != 0) return 22;
+    /* Document 02, ask 4: M1 assembled behind a fact that is dropped; bytes behind a record are not looked at. */
+    uint8_t state[ASPDA_STATE] = {0}, before[ASPDA_STATE], made[17];
+    memset(made, 0xAA, sizeof made);
+    refused = aspda_add(state, sizeof state, source, 12, made, sizeof made);
+    if (ASPDA_REFUSAL_NUMBER(refused) != 15 || ASPDA_REFUSAL_PLACE(refused) != 0) return 23;
+    if (aspda_assembled(state, sizeof state) != 4 || state[0] != 0) return 24;
+    if (aspda_begin(state, sizeof state, made, sizeof made) != 0 || made[0] != 0xAA) return 25;
+    if (aspda_add(state, sizeof state, fact, sizeof fact, made, sizeof made) != 1) return 26;
+    if (aspda_drop(state, sizeof state) != 0) return 27;
+    refused = aspda_drop(state, sizeof state);
+    if (ASPDA_REFUSAL_NUMBER(refused) != 15) return 28;
+    memcpy(before, state, sizeof state);
+    refused = aspda_add(state, sizeof state, source, sizeof source, made, 15);
+    if (ASPDA_REFUSAL_NUMBER(refused) != 9 || memcmp(state, before, sizeof state) != 0) return 29;
+    refused = aspda_add(state, sizeof state, source + 12, 4, made, sizeof made);
+    if (ASPDA_REFUSAL_NUMBER(refused) != 3 || memcmp(state, before, sizeof state) != 0) return 30;
+    if (memcmp(made, fact, 12) != 0 || made[12] != 0xAA) return 31;
+    if (aspda_add(state, sizeof state, source, sizeof source, made, 16) != 1 || made[12] != 0xAA) return 32;
+    if (aspda_close(state, sizeof state, made, 16) != 1 || made[16] != 0xAA) return 33;
+    if (aspda_assembled(state, sizeof state) != sizeof source || memcmp(made, source, sizeof source) != 0) return 34;
+    if (aspda_read_source(made, 16) != 1 || aspda_show_source(made, 16, 1) != shown) return 35;
+    refused = aspda_close(state, sizeof state, made, sizeof made);
+    if (ASPDA_REFUSAL_NUMBER(refused) != 15) return 36;
+    refused = aspda_begin(state, sizeof state - 1, made, sizeof made);
+    if (ASPDA_REFUSAL_NUMBER(refused) != 15) return 37;
+    refused = aspda_begin(state, sizeof state, made, 3);
+    if (ASPDA_REFUSAL_NUMBER(refused) != 9 || aspda_assembled(state, sizeof state) != 16) return 38;
     puts("link.c: linked and answered");
     return 0;
 }

@@ -256,7 +256,8 @@ class File:
                     self.take_name()
                 self.take_block()
         calls = tuple(self.calls_in(self.take_block()))
-        scope = f"{self.module}::{owner}" if owner else self.module
+        # The type of an `impl` is this file's, or one that it imports.
+        scope = self.imports.get(owner, f"{self.module}::{owner}") if owner else self.module
         self.functions.append(Function(f"{scope}::{name}", scope, self.module, self.crate, place,
                                        is_public, is_export, calls))
 

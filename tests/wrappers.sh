@@ -1,5 +1,5 @@
 #!/usr/bin/env bash
-# What calls the library: the Rust crate's and the command's own tests, the built command end to end, the C example.
+# What calls the library: the Rust crate's and the command's own tests, the built command end to end, the C examples.
 # Needs cargo, a C compiler and libaspda.a in $LIBRARY, else target/staticlib (rt staticlib aspda); no network.
 set -euo pipefail
 cd "$(dirname "${BASH_SOURCE[0]}")/.."
@@ -56,4 +56,27 @@ if "$build/translate" tests/filter/heads-17-refused-4.in "$build/refused" 2>"$bu
 fi
 [ "$(cat "$build/log")" = "tests/filter/heads-17-refused-4.in: refused with 4 at byte 0" ] || fail "$(cat "$build/log")"
 [ ! -e "$build/refused" ] || fail "the C example wrote a file for a refusal"
-echo "wrappers.sh: the C example translated and refused"
+
+# M3's records, each in a file of its own, the last one with bytes behind it.
+cc -std=c11 -Wall -Wextra -Werror -I include -o "$build/assemble" examples/c/assemble.c "$LIBRARY/libaspda.a"
+start=0
+for length in 22 17 17 17 17; do
+    tail -c +$((start + 1)) examples/m3.aspda | head -c "$length" >"$build/from$start"
+    start=$((start + length))
+done
+echo 'behind it' >>"$build/from73"
+cd "$build"
+quietly ./assemble m3.aspda from0 from0 - from22 from39 from73 - from56 from73
+cd "$OLDPWD"
+[ "$(cat "$build/log")" = "rules: 5, bytes: 94" ] || fail "$(cat "$build/log")"
+cmp "$build/m3.aspda" examples/m3.aspda
+if "$build/assemble" "$build/refused" "$build/from0" - - 2>"$build/log"; then
+    fail "the C example dropped a rule where none was held"
+fi
+[ "$(cat "$build/log")" = "-: refused with 15 at byte 0" ] || fail "$(cat "$build/log")"
+if "$build/assemble" "$build/refused" examples/m3_sheets.aspda tests/filter/heads-17-refused-4.in 2>"$build/log"; then
+    fail "the C example added a rule with 17 options"
+fi
+[ "$(cat "$build/log")" = "tests/filter/heads-17-refused-4.in: refused with 4 at byte 0" ] || fail "$(cat "$build/log")"
+[ ! -e "$build/refused" ] || fail "the C example wrote a file for a refusal"
+echo "wrappers.sh: the C examples translated, assembled and refused"

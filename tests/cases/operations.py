@@ -12,8 +12,9 @@ class Operation(NamedTuple):
     form: Optional[aspda.Form]      # of its program, or of its set where it takes no program
     takes_program: bool
     takes_set: bool
-    writes: bool
+    writes: bool                    # a buffer is lent to it
     refusals: tuple                 # every number that it can give
+    takes_state: bool = False       # a call of program assembly
     number: int = 0
 
     def set_limit(self):
@@ -26,6 +27,10 @@ SET_AND_OUTPUT = (9, 10, 11, 12)
 
 def operation(name, form, program, literals, writes, refusals):
     return Operation(name, name.split("_")[0], form, program, literals, writes, refusals)
+
+
+def assembly_call(name, writes, refusals):
+    return Operation(name, "assembly", aspda.SOURCE, False, False, writes, refusals, True)
 
 
 def listed():
@@ -45,6 +50,11 @@ def listed():
         operation("restrict", aspda.PLAIN, False, True, True, SET_AND_OUTPUT),
         operation("aspif", aspda.PLAIN, True, False, True, READING[aspda.PLAIN] + (9,)),
         operation("filter", aspda.SOURCE, True, False, False, source + (9,)),
+        assembly_call("begin", True, (9, 15)),
+        assembly_call("add", True, (2, 3, 4, 5, 6, 7, 9, 15)),
+        assembly_call("drop", False, (15,)),
+        assembly_call("close", True, (9, 15)),
+        assembly_call("assembled", False, ()),
     ]
     return [row._replace(number=number) for number, row in enumerate(rows)]
 
@@ -84,6 +94,34 @@ class Row(NamedTuple):
     written: Slice
 
 
+class AssemblyCase(NamedTuple):
+    """One call of program assembly, and what its author states of its outcome, as of a Case.
+
+    Of an accepted call also the end of its row's name.
+    """
+
+    name: str
+    operation: Operation
+    state: Slice
+    record: Slice = NOTHING         # add only
+    room: int = 0
+    stated: object = None
+
+
+class AssemblyRow(NamedTuple):
+    """One call of program assembly and its outcome: every byte of state and buffer."""
+
+    name: str
+    operation: Operation
+    state: Slice
+    record: Slice
+    room: int
+    word: int
+    after: Slice                    # the state
+    start: int                      # where in the buffer it wrote
+    written: Slice
+
+
 def pattern(length):
     """What the lent buffer holds before the call."""
     return (bytes(range(251, 0, -1)) * (length // 251 + 1))[:length]
@@ -103,6 +141,40 @@ def call(case):
     if kind.group == "show":
         inputs.append(case.rule)
     return getattr(aspda, kind.name)(*inputs, out=pattern(case.room))
+
+
+COMPLEMENTS = bytes(range(255, -1, -1))
+
+
+def call_of_assembly(case, out):
+    inputs = [case.record.data] if case.operation.name == "add" else []
+    return getattr(aspda, case.operation.name)(case.state.data, *inputs, out=out)
+
+
+def written_in_both(one, other):
+    """Where two buffers that were lent with complementary bytes agree: start and end.
+
+    That is what was written. Outside they have to be complementary still.
+    """
+    joined = int.from_bytes(one, "big") ^ int.from_bytes(other, "big")
+    differing = joined.to_bytes(len(one), "big")
+    start = max(differing.find(0), 0)
+    end = differing.rfind(0) + 1
+    assert differing == b"\xff" * start + bytes(end - start) + b"\xff" * (len(one) - end)
+    return start, end
+
+
+def evaluated_assembly(case):
+    """The row of a call of assembly; its answer may not depend on what the buffer holds."""
+    lent = pattern(case.room)
+    answer = call_of_assembly(case, lent)
+    other = call_of_assembly(case, lent.translate(COMPLEMENTS))
+    assert answer[:2] == other[:2], case.name
+    start, end = written_in_both(answer.buffer, other.buffer)
+    assert (answer.buffer[:start], answer.buffer[end:]) == (lent[:start], lent[end:]), case.name
+    after = case.state if answer.state == case.state.data else whole(answer.state)
+    return AssemblyRow(case.name, case.operation, case.state, case.record, case.room, answer.word,
+                       after, start, whole(answer.buffer[start:end]))
 
 
 def length_written(kind, word):
@@ -126,14 +198,18 @@ def refusal_in(row):
     return row.word - aspda.REFUSED >> 32, row.word & 0xFFFF_FFFF
 
 
-def evaluated(case):
-    """The row of a case; a statement that the reference contradicts is an error."""
+def evaluated_call(case):
     word, buffer = call(case)
     written = length_written(case.operation, word)
     lent = pattern(case.room) if case.operation.group != "filter" else buffer
     assert len(buffer) == len(lent) and buffer[written:] == lent[written:], case.name
-    row = Row(case.name, case.operation, case.program, case.literals, case.rule, case.room, word,
-              whole(buffer[:written]))
+    return Row(case.name, case.operation, case.program, case.literals, case.rule, case.room, word,
+               whole(buffer[:written]))
+
+
+def evaluated(case):
+    """The row of a case; a statement that the reference contradicts is an error."""
+    row = evaluated_assembly(case) if case.operation.takes_state else evaluated_call(case)
     end = outcome(row)
     if not agrees(case.stated, refusal_in(row), end):
         raise AssertionError(f"{case.operation.name} {case.name}: stated {case.stated}, "
@@ -148,7 +224,7 @@ def agrees(stated, refusal, end):
         return refusal == stated
     if isinstance(stated, int):
         return refusal is not None and refusal[0] == stated
-    return refusal is None and (stated == ACCEPTED or end.split("-")[0] == stated)
+    return refusal is None and stated in (ACCEPTED, end, end.split("-")[0])
 
 
 def outcome(row):
@@ -163,4 +239,6 @@ def outcome(row):
         return f"has-{row.word}-rules"
     if row.operation.group == "show":
         return f"shown-at-{row.word >> 32}"
+    if row.operation.takes_state and row.operation.name != "assembled":
+        return f"holds-{row.word}-rules"
     return f"gives-{row.word}-bytes"

@@ -4,7 +4,7 @@ import random
 
 import samples
 from aspda import CHECKED_LITERALS, SOURCE, answer_sets, expanded
-from cases import programs, suites, verdicts
+from cases import assembly, programs, suites, verdicts
 from cases.literal_sets import literal_set
 from cases.operations import Case
 from cases.slices import NOTHING
@@ -14,6 +14,9 @@ def random_cases(operations, seed, count):
     rng = random.Random(f"{seed} random")
     for number in range(count):
         operation = rng.choice(operations)
+        if operation.takes_state:
+            yield assembly.random_case(operation, rng)._replace(name=f"random-{number}")
+            continue
         make = rng.choices((valid_case, faulty_case, changed_case), (5, 2, 3))[0]
         yield make(operation, rng)._replace(name=f"random-{number}")
 

@@ -15,7 +15,7 @@ from aspda import (ASPIF_BEYOND, ASPIF_TIMES_LONGER, ATOMS, CHECKED_LITERALS, EN
                    RULE_HEADER, SOURCE, TIMES_LONGER, Literal, Refusal, answer_sets, atom,
                    defeasible, defeated, derived, expanded, negated, rule_defeated, strict,
                    sum_length, translation, written_rules)
-from cases import faults, literal_sets, programs, sheets, verdicts
+from cases import assembly, faults, literal_sets, programs, sheets, verdicts
 from cases.literal_sets import literal_set
 from cases.operations import ACCEPTED, Case, call
 from cases.slices import NOTHING
@@ -37,6 +37,9 @@ def default_cases(operation, seed):
     def rng(part):
         return random.Random(f"{seed} {operation.name} {part}")
 
+    if operation.takes_state:
+        yield from assembly.cases(operation, seed, rng)
+        return
     if operation.takes_program:
         yield from fed_programs(operation, rng)
         yield from valid_programs(operation, rng("valid"))

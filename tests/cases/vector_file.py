@@ -7,6 +7,7 @@ read through a pipe: it is a row of entries, and an entry only names blobs that 
     operations  u8 how many, each: u8 length, name      all that there are, in rows or not
     entry   'B' u32 length, bytes                   a blob; blobs are numbered from 0
             'R' row                                 one call and its outcome
+            'A' assembly row                        one call of program assembly and its outcome
             'E' u32 number of rows                  the end; a file without it was cut
     row     u8 operation                            its place in the list, from 0
             u8 length, name
@@ -17,6 +18,17 @@ read through a pipe: it is a row of entries, and an entry only names blobs that 
             u64 word                                filter: the number of bytes written
             slice written                           what the lent buffer starts with after the call;
                                                     its bytes behind that are as they were lent
+    assembly row
+            u8 operation                            its place in the list, from 0
+            u8 length, name
+            slice state                             before the call
+            slice record                            add only, else empty
+            u32 length of the lent buffer           0 where the operation takes none
+            u64 word
+            slice state                             after the call
+            u32 start                               where in the lent buffer
+            slice written                           this stands after the call; all other bytes are
+                                                    as they were lent
     slice   u8 number of pieces, each: u32 blob, u32 start, u32 length; the pieces are joined
 """
 
@@ -42,11 +54,21 @@ class Writer:
         self.stream.write(MAGIC + bytes((len(names),)) + b"".join(names))
 
     def row(self, row):
+        (self.assembly_row if row.operation.takes_state else self.call_row)(row)
+        self.rows += 1
+
+    def call_row(self, row):
         program, literals, written = map(self.slice, (row.program, row.literals, row.written))
         self.stream.write(b"".join((
             b"R", bytes((row.operation.number,)), short_text(row.name), program, literals,
             struct.pack(">IIQ", row.rule, row.room, row.word), written)))
-        self.rows += 1
+
+    def assembly_row(self, row):
+        slices = (row.state, row.record, row.after, row.written)
+        state, record, after, written = map(self.slice, slices)
+        self.stream.write(b"".join((
+            b"A", bytes((row.operation.number,)), short_text(row.name), state, record,
+            struct.pack(">IQ", row.room, row.word), after, struct.pack(">I", row.start), written)))
 
     def end(self):
         self.stream.write(b"E" + struct.pack(">I", self.rows))

@@ -1,14 +1,15 @@
 """The reference: every operation on defeasible answer-set programs, in plain Python.
 
 Written from document 01 ("Kit programs with defaults and their plain translation"), for the export
-to aspif and for preference sheets from document 02's asks 1 and 2, and from nothing else, so that a
-mistake in the library's own definitions shows as a difference. It is plain before it is fast: each
-definition follows the document's sentence.
+to aspif, preference sheets and program assembly from document 02's asks 1, 2 and 4, and from nothing
+else, so that a mistake in the library's own definitions shows as a difference. It is plain before it
+is fast: each definition follows the document's sentence. The documents leave the bytes of an
+assembly's state open: `encoded_state` has the layout.
 
 In order: limits; refusals; literals, rules and preference sheets; bytes to programs and sets;
 programs and sets to bytes; the expanded program; meaning (quotient, model, answer set);
 translation, extension, restriction; the text in aspif; the first smaller model; the operations as
-words; the filter.
+words; program assembly; the filter.
 
 Run as a program it is the filter: python3 aspda.py < source > plain
 """
@@ -57,6 +58,7 @@ TIMES_LONGER = 13       # a translation has at most so many times its source's b
 APPENDED_RULE = 17      # to which each appended rule adds so many
 # A text in aspif has at most so many times its program's bytes, and so many bytes more.
 ASPIF_TIMES_LONGER, ASPIF_BEYOND = 2, 29_012
+ASSEMBLY_STATE = 520    # bytes: 8, and two for each rule that a source may have
 
 RULE_HEADER = Struct(">2sHBBB")     # mark, tag, head count, positive count, naf count
 OVERRIDE_RECORD = Struct(">2sHH")   # mark, upper tag, lower tag
@@ -65,6 +67,7 @@ END_RECORD = Struct(">2sH")         # mark, number of rules
 SET_HEADER = Struct(">2sH")         # mark, number of literals
 REFUSAL_RECORD = Struct(">2sBI")    # mark, number, place
 LITERAL = Struct(">BHH")            # kind, tag, atom
+STATE_HEADER = Struct(">BBHI")      # begun and open or closed, 0, number of rules held, 0
 
 # Above this size the check goes by search; the self-test compares the two below it.
 BRUTE_FORCE_LITERALS = 16
@@ -87,6 +90,7 @@ WRONG_SET_LITERAL = 11
 SET_TOO_LARGE = 12
 NO_SUCH_RULE = 13
 EQUAL = 14              # both tags or both literals of a sheet's record
+NOT_OPEN = 15           # an assembly that is not open, or has no rule to drop
 
 REFUSED = 1 << 63
 
@@ -788,6 +792,146 @@ def check_source(program, proposed, room):
 @answered
 def check_plain(program, proposed, room):
     return check_set(PLAIN, program, proposed, room)
+
+
+# ---------------------------------------------------------------------------------------------
+# Program assembly: a lent state, and a lent buffer that holds the records
+
+
+class HeldRule(NamedTuple):
+    """What a state tells of a rule that is held."""
+
+    is_defeasible: bool
+    heads: int
+    bodies: int         # positive and naf literals together
+
+    def size(self):
+        return RULE_HEADER.size + LITERAL.size * (self.heads + self.bodies)
+
+
+class Assembly(NamedTuple):
+    """What a state's bytes stand for."""
+
+    stage: int
+    rules: tuple        # of HeldRule, in order
+
+
+NOT_BEGUN, OPEN, CLOSED = range(3)
+NOTHING_HELD = Assembly(NOT_BEGUN, ())
+ABOVE_STRICT = 127      # a defeasible rule has a head: its byte starts at 128
+
+
+def held_length(assembly):
+    """The bytes of the records that are held."""
+    return sum(rule.size() for rule in assembly.rules)
+
+
+def places(index):
+    """Where a state has its bytes of a rule, counted from 0: its head's and its body's."""
+    return STATE_HEADER.size + index, STATE_HEADER.size + SOURCE.rules + index
+
+
+def encoded_state(assembly):
+    """The bytes of a state: 0 wherever no rule that is held has its own."""
+    data = bytearray(ASSEMBLY_STATE)
+    STATE_HEADER.pack_into(data, 0, assembly.stage, 0, len(assembly.rules), 0)
+    for index, rule in enumerate(assembly.rules):
+        head, body = places(index)
+        data[head] = rule.heads + ABOVE_STRICT * rule.is_defeasible
+        data[body] = rule.bodies
+    return bytes(data)
+
+
+def is_reached(assembly):
+    """Does some history of calls end here? Its rules are such as reading takes."""
+    if assembly.stage == NOT_BEGUN:
+        return not assembly.rules
+    return (assembly.stage in (OPEN, CLOSED) and len(assembly.rules) <= SOURCE.rules
+            and all(rule.heads <= SOURCE.heads and rule.bodies <= SOURCE.positives + SOURCE.nafs
+                    for rule in assembly.rules))
+
+
+@lru_cache(maxsize=16)  # only for speed, as for reading
+def decoded_state(data):
+    """The assembly whose state the bytes are; what is no state is one before the first begin."""
+    if len(data) != ASSEMBLY_STATE:
+        return NOTHING_HELD
+    stage, _, count, _ = STATE_HEADER.unpack_from(data)
+    rules = []
+    for head, body in map(places, range(min(count, SOURCE.rules))):
+        is_defeasible = data[head] > ABOVE_STRICT
+        heads = data[head] - ABOVE_STRICT * is_defeasible
+        rules.append(HeldRule(is_defeasible, heads, data[body]))
+    assembly = Assembly(stage, tuple(rules))
+    return assembly if is_reached(assembly) and encoded_state(assembly) == data else NOTHING_HELD
+
+
+class AssemblyAnswer(NamedTuple):
+    word: int
+    state: bytes
+    buffer: bytes
+
+
+def assembling(call):
+    """From (assembly, inputs, room) giving (assembly, offset, bytes written there) to one on bytes.
+
+    A refusal hands back state and buffer as they came, and so does a state of another length, which
+    is refused before all else. An accepted call answers with the number of rules then held.
+    """
+    @wraps(call)
+    def on_bytes(state, *inputs, out=b""):
+        try:
+            refuse_if(len(state) != ASSEMBLY_STATE, NOT_OPEN, 0)
+            assembly, at, written = call(decoded_state(state), *inputs, room=len(out))
+        except Refusal as refusal:
+            return AssemblyAnswer(refusal.word(), state, out)
+        buffer = out[:at] + written + out[at + len(written):]
+        return AssemblyAnswer(len(assembly.rules), encoded_state(assembly), buffer)
+    return on_bytes
+
+
+def refuse_without_room(assembly, room):
+    """The rules that are held and an end record have to fit."""
+    refuse_if(room < held_length(assembly) + END_RECORD.size, OUTPUT_TOO_SHORT, 0)
+
+
+@assembling
+def begin(assembly, room):
+    begun = Assembly(OPEN, ())
+    refuse_without_room(begun, room)
+    return begun, 0, b""
+
+
+@assembling
+def add(assembly, record, room):
+    refuse_if(assembly.stage != OPEN, NOT_OPEN, 0)
+    refuse_if(len(record) < 2, CUT, 0)
+    refuse_if(record[:2] not in (STRICT, DEFEASIBLE), WRONG_MARK, 0)
+    read_one = read_rule(SOURCE, record, 0, len(assembly.rules))
+    rule = read_one.item
+    held = HeldRule(rule.is_defeasible(), len(rule.heads), len(rule.positives) + len(rule.nafs))
+    longer = Assembly(OPEN, assembly.rules + (held,))
+    refuse_without_room(longer, room)
+    return longer, held_length(assembly), record[:read_one.end]
+
+
+@assembling
+def drop(assembly, room):
+    refuse_if(assembly.stage != OPEN or not assembly.rules, NOT_OPEN, 0)
+    return Assembly(OPEN, assembly.rules[:-1]), 0, b""
+
+
+@assembling
+def close(assembly, room):
+    refuse_if(assembly.stage != OPEN, NOT_OPEN, 0)
+    refuse_without_room(assembly, room)
+    end = END_RECORD.pack(END, len(assembly.rules))
+    return Assembly(CLOSED, assembly.rules), held_length(assembly), end
+
+
+def assembled(state, out=b""):
+    """The length of what close writes or has written; it refuses nothing."""
+    return AssemblyAnswer(held_length(decoded_state(state)) + END_RECORD.size, state, out)
 
 
 # ---------------------------------------------------------------------------------------------

@@ -12,13 +12,14 @@ import sys
 sys.dont_write_bytecode = True
 
 import samples
-from aspda import (APPENDED_RULE, ASPIF_BEYOND, ASPIF_TIMES_LONGER, ATOMS, BROKEN,
+from aspda import (APPENDED_RULE, ASPIF_BEYOND, ASPIF_TIMES_LONGER, ASSEMBLY_STATE, ATOMS, BROKEN,
                    BRUTE_FORCE_LITERALS, CHECKED_LITERALS, CLASH, LAST_ATOM, LAST_NUMBERED_RULE,
                    LAST_TAG, PLAIN, REFUSED, SMALLER, SOURCE, TIMES_LONGER, YES, Literal,
-                   Opposition, Override, Remainder, answer_sets, appended_rules, aspif, aspif_text,
-                   atom, check_plain, check_source, defeasible, defeated, derived, encoded_item,
-                   encoded_literals, encoded_program, encoded_set, expanded, extend, extension,
-                   filter, first_smaller_by_brute_force, first_smaller_by_search, is_answer_set,
+                   Opposition, Override, Remainder, add, answer_sets, appended_rules, aspif,
+                   aspif_text, assembled, atom, begin, check_plain, check_source, close, defeasible,
+                   defeated, derived, drop, encoded_item, encoded_literals, encoded_program,
+                   encoded_rule, encoded_set, expanded, extend, extension, filter,
+                   first_smaller_by_brute_force, first_smaller_by_search, is_answer_set,
                    is_interpretation, is_model, is_negated, negated, numbering, opposite,
                    proper_subsets, quotient, quotient_plain, quotient_source, read_items,
                    read_plain, read_rules, read_source, restrict, restriction, rule_defeated,
@@ -31,6 +32,8 @@ COMPARED_SEARCHES = 400
 MATCHED_TEXTS = 200
 MATCHED_SHEETS = 120
 COMPARED_EXPANSIONS = 300
+ASSEMBLIES = 40
+ASSEMBLY_STEPS = 300
 
 
 class Tally:
@@ -352,6 +355,158 @@ def bound_of_texts(tally):
 
 
 # ---------------------------------------------------------------------------------------------
+# Program assembly
+
+NO_STATE = bytes(520)
+FACT_RECORD = bytes.fromhex("53 3A 00 00 01 00 00 00 00 00 00 01")
+CHOICE_RECORD = bytes.fromhex("44 3A 00 07 02 01 01 00 00 00 00 01 01 00 00 00 02 "
+                              "02 00 07 00 01 00 00 00 00 03")
+WIDEST_RULE = defeasible(LAST_TAG, [atom(1)] * 16, [defeated(1, atom(2))] * 16, [negated(3)] * 16)
+
+
+def state_of(stage, *counts):
+    """A state's bytes: its stage, and for each rule the byte of its head and that of its body."""
+    heads, bodies = (bytes(pair[row] for pair in counts).ljust(256, b"\0") for row in (0, 1))
+    return bytes((stage, 0)) + len(counts).to_bytes(2, "big") + bytes(4) + heads + bodies
+
+
+def examples_assembled(tally):
+    """M1, M3, M9 rule by rule, bytes behind each record: then read, shown and translated."""
+    for name, rules in (("M1", samples.M1), ("M3", samples.M3), ("M9", samples.M9)):
+        source = encoded_program(rules)
+        lent = pattern(len(source) + 9)
+        answer = begin(NO_STATE, out=lent)
+        tally.same(f"{name} begun", answer, (0, state_of(1), lent))
+        held = 0
+        for number, rule in enumerate(rules, start=1):
+            record = encoded_rule(rule)
+            answer = add(answer.state, record + pattern(number), out=answer.buffer)
+            held += len(record)
+            tally.same(f"{name} rule {number}", (answer.word, answer.buffer),
+                       (number, source[:held] + lent[held:]))
+            tally.same(f"{name} length {number}", assembled(answer.state).word, held + 4)
+        answer = close(answer.state, out=answer.buffer)
+        tally.same(f"{name} closed", (answer.word, answer.buffer),
+                   (len(rules), source + lent[len(source):]))
+        made = answer.buffer[:assembled(answer.state).word]
+        tally.same(f"{name} read", read_source(made).word, len(rules))
+        start = 0
+        for number, rule in enumerate(rules, start=1):
+            length = len(encoded_rule(rule))
+            tally.same(f"{name} shown {number}", show_source(made, number).word,
+                       (start << 32) + length)
+            start += length
+        room = bytes(500)
+        tally.same(f"{name} translated", translate(made, out=room), translate(source, out=room))
+
+
+def states_of_assembly(tally):
+    """Every byte of the states that calls give back."""
+    lent = bytes(100)
+    steps = (begin(NO_STATE, out=lent), add(state_of(1), FACT_RECORD, out=lent),
+             add(state_of(1, (1, 0)), CHOICE_RECORD, out=lent),
+             drop(state_of(1, (1, 0), (129, 2))), close(state_of(1, (1, 0)), out=lent),
+             begin(state_of(2, (1, 0)), out=lent), begin(state_of(1, (1, 0), (129, 2)), out=lent),
+             begin(pattern(520), out=lent))
+    expected = (state_of(1), state_of(1, (1, 0)), state_of(1, (1, 0), (129, 2)),
+                state_of(1, (1, 0)), state_of(2, (1, 0)), state_of(1), state_of(1), state_of(1))
+    words = (0, 1, 2, 1, 1, 0, 0, 0)
+    for number, (step, state, word) in enumerate(zip(steps, expected, words)):
+        tally.same(f"state {number}", (step.word, step.state), (word, state))
+    for state, length in ((NO_STATE, 4), (state_of(1), 4), (state_of(1, (1, 0)), 16),
+                          (state_of(2, (1, 0), (129, 2)), 43), (b"", 4), (bytes(519), 4),
+                          (state_of(1, (1, 0)) + b"\0", 4),
+                          (state_of(1, *[(16, 32)] * 256), 256 * 247 + 4)):
+        tally.same(f"assembled {len(state)} {length}", assembled(state, out=lent),
+                   (length, state, lent))
+
+
+def assembly_refusals(tally):
+    """One record, spoiled further and further: the refusals in reverse order, nothing changed."""
+    full, one = state_of(1, *[(0, 0)] * 256), state_of(1, (1, 0))
+    record = bytearray(CHOICE_RECORD)
+    steps = [(9, 0, one, bytes(record), 42)]
+    record[7], record[9] = 2, 7     # its first option is a defeat mark
+    steps.append((7, 0, one, bytes(record), 42))
+    record[22] = 4
+    steps.append((5, 22, one, bytes(record), 42))
+    steps.append((2, 0, one, bytes(record[:-1]), 42))
+    record[4] = 17
+    steps.append((4, 0, one, bytes(record[:-1]), 42))
+    record[3] = 201
+    steps.append((6, 0, one, bytes(record[:-1]), 42))
+    steps.append((4, 0, full, bytes(record[:-1]), 42))
+    steps.append((2, 0, full, bytes(record[:6]), 42))
+    steps += [(3, 0, full, mark + bytes(record[2:6]), 42) for mark in (b"E:", b"O:", b"X:", b"A:")]
+    steps += [(2, 0, full, bytes(record[:length]), 0) for length in (0, 1)]
+    for state in (NO_STATE, state_of(2), state_of(2, (1, 0)), full[:-1], full + b"\0", b"",
+                  pattern(520)):
+        steps.append((15, 0, state, b"", 0))
+    for number, place, state, given, room in steps:
+        lent = pattern(room)
+        tally.same(f"add refused {number} {given.hex()}", add(state, given, out=lent),
+                   (refused(number, place), state, lent))
+    tally.same("add with room", add(one, CHOICE_RECORD, out=bytes(43)).word, 2)
+    for state in (NO_STATE, state_of(2), state_of(2, (1, 0)), bytes(519), pattern(520)):
+        lent = pattern(3)
+        tally.same("drop refused", drop(state), (refused(15, 0), state, b""))
+        tally.same("close refused", close(state, out=lent), (refused(15, 0), state, lent))
+        tally.same("begin refused", begin(state, out=lent),
+                   (refused(9 if len(state) == 520 else 15, 0), state, lent))
+    tally.same("nothing to drop", drop(state_of(1)), (refused(15, 0), state_of(1), b""))
+    for state, needed in ((state_of(1), 4), (one, 16), (full, 7 * 256 + 4)):
+        lent = pattern(needed - 1)
+        tally.same("close one short", close(state, out=lent), (refused(9, 0), state, lent))
+        answer = close(state, out=pattern(needed))
+        tally.same("close exact", answer.word, int.from_bytes(state[2:4], "big"))
+        tally.same("closed bytes", answer.buffer,
+                   pattern(needed)[:-4] + b"E:" + answer.word.to_bytes(2, "big"))
+    tally.same("begin exact", begin(one, out=bytes(4)).state, state_of(1))
+
+
+def states_that_are_none(tally):
+    """Bytes that no history gives back count as a state before the first begin."""
+    good = state_of(1, (1, 0), (129, 2))
+    wrong = ((0, 0), (0, 3), (0, 255), (1, 1), (2, 1), (3, 1), (4, 1), (5, 1), (6, 1), (7, 1),
+             (8, 17), (8, 127), (8, 144), (8, 255), (9, 144), (10, 1), (10, 128), (263, 1),
+             (264, 33), (264, 255), (265, 33), (266, 1), (519, 1))
+    none = [good[:at] + bytes((byte,)) + good[at + 1:] for at, byte in wrong]
+    # A third rule without literals is a state like any other.
+    tally.same("third rule of nothing", drop(good[:3] + b"\3" + good[4:]).state, good)
+    none += [state_of(1, *[(0, 0)] * 256)[:2] + b"\1\1" + bytes(516), state_of(0, (0, 0)),
+             b"\0" * 519 + b"\1", b"\xff" * 520]
+    for number, state in enumerate(none):
+        name = f"no state {number}"
+        tally.same(f"{name} assembled", assembled(state).word, 4)
+        tally.same(f"{name} drop", drop(state), (refused(15, 0), state, b""))
+        tally.same(f"{name} begin", begin(state, out=bytes(4)).state, state_of(1))
+    for length in (0, 1, 8, 519, 521, 1_040):
+        state = (good + good)[:length]
+        for name, answer in (("begin", begin(state, out=bytes(9))), ("drop", drop(state)),
+                             ("add", add(state, FACT_RECORD, out=bytes(99))),
+                             ("close", close(state, out=bytes(99)))):
+            tally.same(f"{name} of {length}", (answer.word, answer.state), (refused(15, 0), state))
+        tally.same(f"assembled of {length}", assembled(state).word, 4)
+
+
+def assembly_limits(tally):
+    """256 rules of the most bytes with exact room, one more, and one byte less."""
+    record = encoded_rule(WIDEST_RULE)
+    tally.same("widest record", len(record), 247)
+    room = SOURCE.rules * 247 + 4
+    answer = begin(NO_STATE, out=pattern(room))
+    for number in range(1, SOURCE.rules + 1):
+        before = answer.state
+        answer = add(answer.state, record, out=answer.buffer)
+        tally.same(f"widest rule {number}", answer.word, number)
+    tally.same("one byte short", add(before, record, out=pattern(room - 1)).word, refused(9, 0))
+    tally.same("one rule more", add(answer.state, FACT_RECORD, out=bytes(room)).word, refused(4, 0))
+    answer = close(answer.state, out=answer.buffer)
+    tally.same("all closed", read_source(answer.buffer).word, SOURCE.rules)
+    tally.same("all as encoded", answer.buffer, encoded_program([WIDEST_RULE] * SOURCE.rules))
+
+
+# ---------------------------------------------------------------------------------------------
 # Limits
 
 
@@ -378,6 +533,7 @@ def figures(tally):
     tally.same("literals of a set that is checked", CHECKED_LITERALS, 64)
     tally.same("times as long", (TIMES_LONGER, APPENDED_RULE), (13, 17))
     tally.same("bound of a text", (ASPIF_TIMES_LONGER, ASPIF_BEYOND), (2, 29_012))
+    tally.same("bytes of a state", ASSEMBLY_STATE, 520)
 
 
 def rule_limits(tally):
@@ -674,6 +830,50 @@ def texts_and_programs(tally, rng):
     tally.same("some texts with several answer sets", several > 0, True)
 
 
+def assemblies(tally, rng):
+    """Random calls beside a list of records: what is closed is what the list says."""
+    closings = 0
+    for _ in range(ASSEMBLIES):
+        shape = samples.Shape(rules=12, heads=rng.choice((2, 16)), positives=rng.choice((2, 16)))
+        records = [encoded_rule(rule) for rule in samples.random_source(rng, shape)]
+        lent = pattern(rng.choice((4, 60, 400, 3_000)))
+        state, buffer, held = NO_STATE, lent, None      # None: not open
+        for _ in range(rng.randint(1, ASSEMBLY_STEPS)):
+            step = rng.choices((begin, add, drop, close), (20 if held is None else 1, 30, 8, 3))[0]
+            given = [rng.choice(records)] if step is add else []
+            answer = step(state, *given, out=buffer)
+            length = len(b"".join(held or ()))
+            if step is begin:
+                wanted = 0
+            elif held is None or (step is drop and not held):
+                wanted = refused(15, 0)
+            elif step is drop:
+                wanted = len(held) - 1
+            elif step is add and length + len(given[0]) + 4 <= len(lent):
+                wanted = len(held) + 1
+            else:
+                wanted = refused(9, 0) if step is add else len(held)
+            tally.same(f"{step.__name__} of {held}", answer.word, wanted)
+            if wanted >= REFUSED:
+                tally.same("nothing changed", answer[1:], (state, buffer))
+                continue
+            state, buffer = answer.state, answer.buffer
+            held = {begin: [], add: (held or []) + given, drop: (held or [])[:-1],
+                    close: held}[step]
+            records_held = b"".join(held)
+            tally.same("length", assembled(state).word, len(records_held) + 4)
+            tally.same("records", buffer[:len(records_held)], records_held)
+            if step is not close:
+                continue
+            closings += 1
+            made = buffer[:assembled(state).word]
+            tally.same("read", read_source(made).word, len(held))
+            shown = [show_source(made, number).word for number in range(1, len(held) + 1)]
+            tally.same("shown", [made[word >> 32:][:word & 0xFFFF_FFFF] for word in shown], held)
+            held = None
+    tally.same("many were closed", closings > 3 * ASSEMBLIES, True)
+
+
 def reading_and_writing(tally, rng):
     """Reading gives back what was encoded, and each proper prefix is refused as cut."""
     for run in range(90):
@@ -692,10 +892,12 @@ def main():
     for part in (marked_example_1, marked_example_2, marked_example_3, marked_examples_4_and_5,
                  marked_examples_6_to_9, kinds_of_literals, example_with_sheets, orders_and_repeats,
                  wrong_sheets, texts_in_aspif, bound_of_texts, figures, rule_limits, sheet_limits,
-                 count_limits, number_limits, length_limits, set_limits, show_limits):
+                 count_limits, number_limits, length_limits, set_limits, show_limits,
+                 examples_assembled, states_of_assembly, assembly_refusals, states_that_are_none,
+                 assembly_limits):
         tally.run(part)
     for part in (one_to_one_match, match_with_sheets, expansions, brute_force_and_search,
-                 verdicts_and_answer_sets, texts_and_programs, reading_and_writing):
+                 verdicts_and_answer_sets, texts_and_programs, reading_and_writing, assemblies):
         tally.run(part, random.Random(f"{SEED} {part.__name__}"))
     print(f"{tally.checks} checks, {tally.failed} failed")
     return 1 if tally.failed or not tally.checks else 0

@@ -21,7 +21,7 @@ build_with() {
     if [ ! -d "$objects" ]; then
         mkdir "$objects"
         (cd "$objects" && "$compiler" $FLAGS "$@" -c "$here/reference.cpp" "$here/calls.cpp" "$here/cases.cpp" \
-            "$here/blocks.cpp")
+            "$here/scripts.cpp" "$here/blocks.cpp")
     fi
     # shellcheck disable=SC2086
     "$compiler" $FLAGS "$@" -no-pie -o "$build/$program" "$here/$program.cpp" "$objects"/*.o -L "$LIBRARY" -laspda

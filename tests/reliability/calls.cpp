@@ -2,6 +2,7 @@
 
 #include "../../include/aspda.h"
 
+#include <algorithm>
 #include <cinttypes>
 #include <cstdio>
 #include <stdexcept>
@@ -35,12 +36,18 @@ std::uint64_t by_library(unsigned operation, const Slices &s, std::uint32_t rule
     case check_source: return with_set(aspda_check_source, s);
     case check_plain: return with_set(aspda_check_plain, s);
     case aspif: return aspda_aspif(s.program, s.program_length, s.out, s.room);
+    case begin: return aspda_begin(s.state, s.state_length, s.out, s.room);
+    case add: return aspda_add(s.state, s.state_length, s.program, s.program_length, s.out, s.room);
+    case drop: return aspda_drop(s.state, s.state_length);
+    case close: return aspda_close(s.state, s.state_length, s.out, s.room);
+    case assembled: return aspda_assembled(s.state, s.state_length);
     default: throw std::logic_error("an operation that the library is not asked for");
     }
 }
 
-std::uint64_t by_reference(const Call &call, Bytes &buffer)
+std::uint64_t by_reference(const Call &call, Lent &lent)
 {
+    Bytes &buffer = lent.out;
     Form form = exports[call.operation].form;
     switch (call.operation) {
     case read_source:
@@ -55,6 +62,11 @@ std::uint64_t by_reference(const Call &call, Bytes &buffer)
     case check_source:
     case check_plain: return reference::check(form, call.program, call.set, buffer);
     case aspif: return reference::aspif(call.program, buffer);
+    case begin: return reference::begin(lent.state, buffer);
+    case add: return reference::add(lent.state, call.program, buffer);
+    case drop: return reference::drop(lent.state);
+    case close: return reference::close(lent.state, buffer);
+    case assembled: return reference::assembled(lent.state);
     default: throw std::logic_error("an operation that the reference is not asked for");
     }
 }
@@ -64,6 +76,17 @@ Bytes filling(std::size_t length, unsigned salt)
     Bytes bytes(length);
     for (std::size_t i = 0; i < length; ++i) bytes[i] = static_cast<std::uint8_t>(i * 151 + i / 256 + salt);
     return bytes;
+}
+
+Lent lent_to(const Call &call, unsigned salt)
+{
+    return {call.state, filling(call.room, salt)};
+}
+
+bool is_as(const Lent &lent, const Slices &slices)
+{
+    return std::equal(lent.out.begin(), lent.out.end(), slices.out) &&
+           std::equal(lent.state.begin(), lent.state.end(), slices.state);
 }
 
 void Tally::count(unsigned operation, std::uint64_t word)
@@ -119,15 +142,19 @@ std::string hex(const std::uint8_t *bytes, std::size_t length)
     return text;
 }
 
-void print_difference(const Call &call, std::uint64_t expected, const Bytes &buffer, std::uint64_t got,
-                      const std::uint8_t *out)
+void print_difference(const Call &call, std::uint64_t expected, const Lent &lent, std::uint64_t got,
+                      const Slices &slices)
 {
     std::printf("DIFFERENT %s, rule %" PRIu32 ", output slice of %zu bytes\n", exports[call.operation].name, call.rule,
                 call.room);
     std::printf("program %s\n", hex(call.program.data(), call.program.size()).c_str());
     std::printf("set %s\n", hex(call.set.data(), call.set.size()).c_str());
-    std::printf("reference: word %016" PRIx64 ", buffer %s\n", expected, hex(buffer.data(), buffer.size()).c_str());
-    std::printf("library:   word %016" PRIx64 ", buffer %s\n", got, hex(out, call.room).c_str());
+    std::printf("state %s\n", hex(call.state.data(), call.state.size()).c_str());
+    auto tell = [](const char *who, std::uint64_t word, const std::string &out, const std::string &state) {
+        std::printf("%s word %016" PRIx64 ", buffer %s, state %s\n", who, word, out.c_str(), state.c_str());
+    };
+    tell("reference:", expected, hex(lent.out.data(), lent.out.size()), hex(lent.state.data(), lent.state.size()));
+    tell("library:  ", got, hex(slices.out, call.room), hex(slices.state, call.state.size()));
 }
 
 } // namespace calls

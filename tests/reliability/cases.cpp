@@ -159,6 +159,115 @@ void damage(Random &random, Bytes &bytes)
     }
 }
 
+namespace {
+
+// A literal of a source; of one that may stand in a defeasible head if it is an option.
+Literal of_source(Random &random, bool is_option)
+{
+    auto upto = [&](unsigned most) { return static_cast<unsigned>(random.once_in(30) ? most : random.between(1, most)); };
+    auto kind = static_cast<unsigned>(random.below(is_option ? reference::defeated : source_limits.last_kind + 1));
+    return {kind, kind < reference::defeated ? 0 : upto(last_tag), upto(last_atom)};
+}
+
+Literals of_source(Random &random, std::size_t count, bool are_options)
+{
+    Literals some;
+    while (some.size() < count) some.push_back(of_source(random, are_options));
+    return some;
+}
+
+Bytes record_of(const Rule &rule)
+{
+    constexpr std::size_t end_record = 4;
+    Bytes record = reference::program_bytes({rule});
+    record.resize(record.size() - end_record);
+    return record;
+}
+
+// A record that has no literals, or whose first one is a defeat mark: wrong in a defeasible rule.
+void spoil_head(Random &random, Bytes &record)
+{
+    constexpr std::size_t kind = rule_header, tag = rule_header + 2;
+    if (random.once_in(3)) record = {'D', ':', 0, 1, 0, 0, 0};
+    else if (record.size() > tag) record[kind] |= 2, record[tag] = 1;
+}
+
+// How many bytes of records a state and the record to add need, and an end record.
+std::size_t needed_by(const Call &call)
+{
+    std::size_t needed = reference::assembled(call.operation == calls::begin ? Bytes{} : call.state);
+    if (call.program.size() >= rule_header)
+        needed += rule_header + literal_size * (call.program[4] + call.program[5] + call.program[6]);
+    return needed;
+}
+
+} // namespace
+
+Bytes drawn_record(Random &random, std::size_t head, std::size_t body)
+{
+    Rule made{};
+    made.defeasible = random.once_in(2);
+    made.tag = made.defeasible ? static_cast<unsigned>(random.between(1, last_tag)) : 0;
+    made.head = of_source(random, random.between(made.defeasible ? 1 : 0, head), made.defeasible);
+    made.positive = of_source(random, random.between(0, body), false);
+    made.naf = of_source(random, random.between(0, body), false);
+    return record_of(made);
+}
+
+Bytes widest_record(Random &random)
+{
+    Rule made{};
+    made.defeasible = random.once_in(2);
+    made.tag = made.defeasible ? last_tag : 0;
+    made.head = of_source(random, source_limits.head, made.defeasible);
+    made.positive = of_source(random, source_limits.positive, false);
+    made.naf = of_source(random, source_limits.naf, false);
+    return record_of(made);
+}
+
+Bytes drawn_state(Random &random)
+{
+    using Sizes = std::vector<std::size_t>;
+    const reference::Limits most = source_limits;
+    Bytes state(reference::state_length);
+    state[0] = random.once_in(10) ? 2 : 1;
+    std::size_t held = random.pick(Sizes{0, 1, 2, 3, 8, 20, most.rules - 1, most.rules, random.below(most.rules + 1)});
+    state[2] = static_cast<std::uint8_t>(held / 256);
+    state[3] = static_cast<std::uint8_t>(held % 256);
+    for (std::size_t i = 0; i < held; ++i) {
+        bool is_defeasible = random.once_in(2);
+        std::size_t heads = random.between(is_defeasible ? 1 : 0, most.head);
+        state[reference::state_heads + i] = static_cast<std::uint8_t>(heads + (is_defeasible ? 127 : 0));
+        state[reference::state_bodies + i] = static_cast<std::uint8_t>(random.below(most.positive + most.naf + 1));
+    }
+    return state;
+}
+
+void damage_state(Random &random, Bytes &state)
+{
+    constexpr std::size_t heads = reference::state_heads, bodies = reference::state_bodies, length = reference::state_length;
+    using Values = std::vector<unsigned>;
+    if (state.size() != length || random.once_in(12)) {
+        state.assign(length, 0);
+        return;
+    }
+    std::size_t held = state[2] * 256u + state[3], most = source_limits.rules;
+    std::size_t near_end = std::min(most - 1, held - std::min(held, random.below(2)));
+    auto flip = [&](std::size_t at) { state[at] = static_cast<std::uint8_t>(state[at] ^ 1u << random.below(8)); };
+    switch (random.below(8)) {
+    case 0: flip(random.below(heads)); return;
+    case 1: flip(random.below(length)); return;
+    case 2: state[heads + near_end] = static_cast<std::uint8_t>(random.pick(Values{0, 1, 16, 17, 127, 128, 143, 144, 255})); return;
+    case 3: state[bodies + near_end] = static_cast<std::uint8_t>(random.pick(Values{0, 1, 31, 32, 33, 128, 255})); return;
+    case 4: state[3] = static_cast<std::uint8_t>(state[3] + (random.once_in(2) ? 1 : 255)); return;
+    case 5: state.resize(random.once_in(2) ? length - random.below(2) * 2 + 1 : random.below(2 * length)); return;
+    case 6:
+        for (std::uint8_t &byte : state) byte = static_cast<std::uint8_t>(random.next());
+        return;
+    default: state[0] = static_cast<std::uint8_t>(random.below(4));
+    }
+}
+
 Bytes most_appended()
 {
     constexpr reference::Limits most = source_limits;
@@ -510,8 +619,8 @@ std::size_t Batch::room_for(Call call)
     // Around the length that always suffices: code may go another way from there on, or from somewhat later.
     if (call.operation == calls::aspif && random.once_in(4))
         return reference::aspif_bound(call.program.size()) - 2 + random.below(random.once_in(2) ? 4 : well_beyond);
-    Bytes buffer(ample(call));
-    std::uint64_t word = calls::by_reference(call, buffer);
+    calls::Lent lent{{}, Bytes(ample(call))};
+    std::uint64_t word = calls::by_reference(call, lent);
     std::size_t needed = ASPDA_IS_REFUSAL(word)             ? random.below(64)
                          : calls::is_check(call.operation) ? call.set.size()
                                                             : word;
@@ -535,6 +644,32 @@ Bytes Batch::program_for(unsigned operation)
     return program;
 }
 
+// A call of program assembly on a state of its own.
+Call Batch::assembly_call(unsigned operation)
+{
+    const calls::Export &taken = calls::exports[operation];
+    Call call;
+    call.operation = operation;
+    call.state = drawn_state(random);
+    if (random.once_in(4)) damage_state(random, call.state);
+    if (taken.takes_program) {
+        call.program = random.once_in(20) ? widest_record(random) : record_of(rule(Form::source));
+        if (random.once_in(20)) spoil_head(random, call.program);
+        if (random.once_in(3)) damage(random, call.program);
+        if (random.once_in(30) && !call.program.empty()) call.program[0] = "EOXAsN"[random.below(6)];
+        if (random.once_in(4)) call.program.resize(call.program.size() + random.between(1, 9), 'S');
+    }
+    if (!taken.takes_out) return call;
+    std::size_t needed = needed_by(call);
+    switch (random.below(6)) {
+    case 0: call.room = needed - 1; break;
+    case 1: call.room = random.below(needed); break;
+    case 2: call.room = needed + random.between(1, 40); break;
+    default: call.room = needed;
+    }
+    return call;
+}
+
 Call Batch::next()
 {
     Call call;
@@ -543,6 +678,7 @@ Call Batch::next()
                      : drawn == calls::exports.size() ? calls::check_source
                                                       : calls::check_plain;
     const calls::Export &taken = calls::exports[call.operation];
+    if (taken.takes_state) return assembly_call(call.operation);
     if (taken.takes_program) call.program = program_for(call.operation);
     if (taken.takes_set) call.set = set_for(call.operation);
     if (taken.takes_set && random.once_in(8)) damage(random, call.set);

@@ -1,5 +1,6 @@
 // Random calls. A batch is a source, a plain program (often the source's translation) and sets that fit them; each call
-// of the batch takes one of these, whole or damaged. A batch depends on the seed and on its number alone.
+// of the batch takes one of these, whole or damaged; a call of program assembly takes a state of its own. A batch depends
+// on the seed and on its number alone.
 #pragma once
 
 #include "calls.hpp"
@@ -38,6 +39,15 @@ private:
 
 // One byte, literal or count of a program or set changed, a record of a sheet put in, or the slice cut or made longer.
 void damage(Random &random, Bytes &bytes);
+
+// The record of a source's rule, with at most so many literals in its head and in each part of its body.
+Bytes drawn_record(Random &random, std::size_t head, std::size_t body);
+// One with as many literals as there can be, strict or defeasible.
+Bytes widest_record(Random &random);
+// A state of an assembly: open or closed, with few rules or as many as there can be.
+Bytes drawn_state(Random &random);
+// One byte changed, one rule more or fewer counted, all zero, garbage, or another length.
+void damage_state(Random &random, Bytes &state);
 
 // The longest source, and of those one with the most appended rules: two for each two records of its sheets.
 Bytes most_appended();
@@ -78,6 +88,7 @@ private:
     reference::Literals head_literals(Form form, std::size_t most);
     Bytes repaired(Form form, Bytes set);
     reference::Literals mended(Form form, reference::Literals set, std::uint64_t word, const Bytes &buffer);
+    Call assembly_call(unsigned operation);
     Bytes program_for(unsigned operation);
     Bytes set_for(unsigned operation);
     Bytes altered(const Bytes &set, Form form);

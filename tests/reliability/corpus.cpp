@@ -1,6 +1,6 @@
 // Writes a seed corpus for fuzz.cpp: corpus DIRECTORY FILE...
 // Each FILE is a program in bytes (examples/*.aspda, *.plain); besides there are calls of cases.hpp.
-#include "cases.hpp"
+#include "scripts.hpp"
 
 #include <cstdio>
 #include <fstream>
@@ -19,6 +19,30 @@ void put(const std::string &directory, unsigned operation, std::size_t number, c
         stream.put(static_cast<char>(byte));
     for (const Bytes *part : {&set, &program})
         stream.write(reinterpret_cast<const char *>(part->data()), static_cast<std::streamsize>(part->size()));
+}
+
+// Calls of program assembly with this record, on states of each kind; scripts of few bytes.
+void put_assembly(const std::string &directory)
+{
+    cases::Random random(1);
+    const Bytes zeros(reference::state_length), record = cases::drawn_record(random, 2, 1);
+    std::vector<Bytes> states{zeros};
+    for (unsigned i = 0; i < 12; ++i) states.push_back(cases::drawn_state(random));
+    for (const Bytes &state : states)
+        for (unsigned operation = calls::begin; operation <= calls::assembled; ++operation)
+            put(directory, operation, reference::assembled(state) + record.size(), state, record);
+    for (std::uint64_t number = 0; number < 40; ++number) {
+        scripts::Script script = scripts::drawn(1, number);
+        Bytes steps;
+        for (const calls::Call &call : script.steps) {
+            if (call.program.size() > 255 || steps.size() > 1000) break;
+            steps.push_back(static_cast<std::uint8_t>(call.operation - calls::begin));
+            if (call.operation != calls::add) continue;
+            steps.push_back(static_cast<std::uint8_t>(call.program.size()));
+            steps.insert(steps.end(), call.program.begin(), call.program.end());
+        }
+        put(directory, calls::exports.size(), script.room, {}, steps);
+    }
 }
 
 // Calls of every export with this program and set, and an output slice that is long enough for most.
@@ -66,13 +90,14 @@ int main(int count, char **words)
         put_all(words[1], reference::set_bytes({}), Bytes((std::istreambuf_iterator<char>(stream)), {}));
     }
     put_limits(words[1]);
+    put_assembly(words[1]);
     for (std::uint64_t number = 0; number < 30; ++number) {
         cases::Batch batch(1, number, cases::Style::small);
         for (std::uint64_t i = 0; i < cases::batch_size; ++i) {
             calls::Call call = batch.next();
             std::size_t last = calls::exports[call.operation].takes_rule ? call.rule : call.room;
-            if (call.program.size() + call.set.size() < 1000)
-                put(words[1], call.operation, last % 65536, call.set, call.program);
+            const Bytes &set = calls::exports[call.operation].takes_state ? call.state : call.set;
+            if (call.program.size() + set.size() < 1000) put(words[1], call.operation, last % 65536, set, call.program);
         }
     }
 }

@@ -1,8 +1,9 @@
 // The library beside the reference on random calls: differential SEED COUNT [THREADS].
-// The calls are those of cases.hpp, batch by batch, and depend on seed and count alone. Stops at the first difference.
-// It fails too if fewer calls were made than asked for, or none of an export.
+// The calls are those of cases.hpp, batch by batch, and depend on seed and count alone; one batch in sixteen is followed by
+// a script of scripts.hpp, whose steps come on top. Stops at the first difference.
+// It fails too if fewer calls were made than asked for, or none of an export, or no script was closed and read back.
 #include "blocks.hpp"
-#include "cases.hpp"
+#include "scripts.hpp"
 
 #include <algorithm>
 #include <atomic>
@@ -18,13 +19,17 @@ namespace {
 using calls::Bytes;
 using calls::Call;
 
+constexpr std::uint64_t batches_for_a_script = 16;
+
 // The three slices of a call in one block, in one of three orders, with gaps between them or none: a byte that is
 // written outside its slice is another slice's or a gap's. Without gaps, copies between neighbours take other ways.
+// A call with a state has no set; its record stands before the output slice, to which it is copied.
 class Block {
 public:
-    Block(const Call &call, const Bytes &buffer, std::uint64_t number)
+    Block(const Call &call, const calls::Lent &lent, std::uint64_t number)
+        : has_state(calls::exports[call.operation].takes_state)
     {
-        const Bytes *parts[] = {&call.program, &call.set, &buffer};
+        const Bytes *parts[] = {has_state ? &lent.state : &call.program, has_state ? &call.program : &call.set, &lent.out};
         std::size_t gap = number / 3 % 2 == 0 ? 64 : 0;
         pad(64);
         for (std::uint64_t i = 0; i < 3; ++i) {
@@ -34,9 +39,12 @@ public:
             pad(i == 2 ? 64 : gap);
         }
     }
-    std::uint8_t *program() { return bytes.data() + starts[0]; }
-    std::uint8_t *set() { return bytes.data() + starts[1]; }
-    std::uint8_t *out() { return bytes.data() + starts[2]; }
+    calls::Slices slices(const Call &call)
+    {
+        std::uint8_t *first = bytes.data() + starts[0], *second = bytes.data() + starts[1], *out = bytes.data() + starts[2];
+        std::uint8_t *program = has_state ? second : first, *state = first;
+        return {program, call.program.size(), second, call.set.size(), out, call.room, state, call.state.size()};
+    }
     bool operator==(const Block &other) const { return bytes == other.bytes; }
 
 private:
@@ -45,15 +53,16 @@ private:
         for (std::size_t i = 0; i < length; ++i) bytes.push_back(static_cast<std::uint8_t>(i * 37 + 5));
     }
 
+    bool has_state;
     Bytes bytes;
     std::size_t starts[3];
 };
 
 // A sum over calls and answers, which does not depend on the order of the batches.
-std::uint64_t digest(const Call &call, std::uint64_t word, const Bytes &buffer)
+std::uint64_t digest(const Call &call, std::uint64_t word, const calls::Lent &lent)
 {
     std::uint64_t sum = word ^ call.operation ^ std::uint64_t{call.rule} << 8;
-    for (const Bytes *part : {&call.program, &call.set, &buffer})
+    for (const Bytes *part : {&call.program, &call.set, &lent.out, &call.state, &lent.state})
         for (std::uint8_t byte : *part) sum = (sum ^ byte) * 0x100000001b3;
     return sum;
 }
@@ -63,6 +72,7 @@ struct Run {
     std::atomic<std::uint64_t> next_batch{0}, last_batch{0};
     std::mutex lock;
     calls::Tallies tallies{};
+    scripts::Counts scripts;
     std::uint64_t sum = 0;
     bool differs = false;
 
@@ -71,6 +81,7 @@ struct Run {
 
 struct Part {
     calls::Tallies tallies{};
+    scripts::Counts scripts;
     std::uint64_t sum = 0;
 };
 
@@ -78,18 +89,18 @@ struct Part {
 // asked.
 bool agrees(const Call &call, std::uint64_t number, bool prints, Part &part)
 {
-    Bytes buffer = calls::filling(call.room, static_cast<unsigned>(number));
-    Block block(call, buffer, number);
-    std::uint64_t expected = calls::by_reference(call, buffer);
-    calls::Slices slices{block.program(), call.program.size(), block.set(), call.set.size(), block.out(), call.room};
+    calls::Lent lent = calls::lent_to(call, static_cast<unsigned>(number));
+    Block block(call, lent, number);
+    std::uint64_t expected = calls::by_reference(call, lent);
+    calls::Slices slices = block.slices(call);
     std::uint64_t got = calls::by_library(call.operation, slices, call.rule);
     part.tallies[call.operation].count(call.operation, expected);
-    part.sum += digest(call, expected, buffer);
-    if (got == expected && block == Block(call, buffer, number)) return true;
+    part.sum += digest(call, expected, lent);
+    if (got == expected && block == Block(call, lent, number)) return true;
     if (prints) {
-        calls::print_difference(call, expected, buffer, got, block.out());
-        if (got == expected && std::equal(buffer.begin(), buffer.end(), block.out()))
-            std::puts("the answers are the same: a byte outside the output slice changed");
+        calls::print_difference(call, expected, lent, got, slices);
+        if (got == expected && calls::is_as(lent, slices))
+            std::puts("the answers are the same: a byte outside the slices that are written changed");
     }
     return false;
 }
@@ -104,7 +115,10 @@ bool batch_agrees(const Run &run, std::uint64_t number, bool prints, Part &part)
         if (prints) std::printf("case %" PRIu64 " of seed %" PRIu64 "\n", i, run.seed);
         return false;
     }
-    return true;
+    if (number % batches_for_a_script != 0) return true;
+    if (scripts::agrees(scripts::drawn(run.seed, number), prints, part.scripts)) return true;
+    if (prints) std::printf("script %" PRIu64 " of seed %" PRIu64 "\n", number, run.seed);
+    return false;
 }
 
 // Takes batches in order. After a difference no later batch is taken, so the first one of all is found by any threads.
@@ -121,7 +135,8 @@ void work(Run &run)
     }
     std::lock_guard<std::mutex> held(run.lock);
     for (std::size_t i = 0; i < run.tallies.size(); ++i) run.tallies[i].add(part.tallies[i]);
-    run.sum += part.sum;
+    run.scripts.add(part.scripts);
+    run.sum += part.sum + part.scripts.sum;
 }
 
 } // namespace
@@ -148,11 +163,14 @@ int main(int count, char **words)
         batch_agrees(run, run.last_batch, true, again);
         return 1;
     }
-    calls::print(run.tallies);
     std::uint64_t made = 0;
     for (const calls::Tally &tally : run.tallies) made += tally.calls;
     if (made != run.count) return std::printf("%" PRIu64 " calls were made\n", made), 1;
     if (!calls::all_called(run.tallies)) return 1;
+    for (std::size_t i = 0; i < run.tallies.size(); ++i) run.tallies[i].add(run.scripts.tallies[i]);
+    calls::print(run.tallies);
+    scripts::print(run.scripts);
+    if (run.scripts.read_back == 0 || run.scripts.full == 0) return std::puts("the scripts have shown nothing"), 1;
     blocks::report();
     std::printf("digest %016" PRIx64 "; %.1f s, %.0f cases a second; no difference\n", run.sum, seconds,
                 static_cast<double>(run.count) / seconds);

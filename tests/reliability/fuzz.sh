@@ -13,4 +13,4 @@ mkdir "$build/inputs"
 mkdir -p target/findings
 "$build/fuzz" -max_total_time="$seconds" -max_len=6000 -print_final_stats=1 -artifact_prefix=target/findings/ \
     "$build/inputs" >"$build/log" 2>&1 || { tail -n 40 "$build/log"; exit 1; }
-grep -E 'counters|INITED|DONE|^stat|cases|blocks' "$build/log"
+grep -E 'counters|INITED|DONE|^stat|cases|scripts|blocks' "$build/log"

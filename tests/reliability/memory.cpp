@@ -5,7 +5,7 @@
 //     memory stack     a table of each export's stack at inputs of limit size
 //
 // All compare words and buffers with the reference.
-#include "cases.hpp"
+#include "scripts.hpp"
 
 #include <algorithm>
 #include <csignal>
@@ -60,10 +60,20 @@ bool visit_batches(Style style, std::uint64_t batches, const Visit &visit)
     return true;
 }
 
+// The steps of scripts, each as a call of its own.
+bool visit_scripts(std::uint64_t scripts, const Visit &visit)
+{
+    for (std::uint64_t number = 0; number < scripts; ++number)
+        for (const Call &call : scripts::drawn(seed, number).steps)
+            if (!visit(call)) return false;
+    return true;
+}
+
 bool visit_all(std::uint64_t small, std::uint64_t limit, const Visit &visit)
 {
     return visit_empty(visit) && visit_batches(Style::small, small, visit) &&
-           visit_batches(Style::disjunctive, small / 10, visit) && visit_batches(Style::limit, limit, visit);
+           visit_batches(Style::disjunctive, small / 10, visit) && visit_batches(Style::limit, limit, visit) &&
+           visit_scripts(2 * limit, visit);
 }
 
 // ---- Fences
@@ -104,10 +114,11 @@ bool is_at_end = false;
 
 void report_fault(int)
 {
-    std::printf("FAULT in %s, slices at the %s of their pages, output slice of %zu bytes\nprogram %s\nset %s\n",
+    std::printf("FAULT in %s, slices at the %s of their pages, output slice of %zu bytes\nprogram %s\nset %s\nstate %s\n",
                 calls::exports[under_way->operation].name, is_at_end ? "end" : "start", under_way->room,
                 calls::hex(under_way->program.data(), under_way->program.size()).c_str(),
-                calls::hex(under_way->set.data(), under_way->set.size()).c_str());
+                calls::hex(under_way->set.data(), under_way->set.size()).c_str(),
+                calls::hex(under_way->state.data(), under_way->state.size()).c_str());
     std::fflush(stdout);
     _exit(1);
 }
@@ -116,27 +127,36 @@ class Fences {
 public:
     bool agrees(const Call &call, bool at_end)
     {
-        Bytes buffer = calls::filling(call.room, 7);
+        calls::Lent lent = calls::lent_to(call, 7);
         Slices slices{program.place(call.program, at_end), call.program.size(), set.place(call.set, at_end),
-                      call.set.size(), out.place(buffer, at_end), call.room};
-        std::uint64_t expected = calls::by_reference(call, buffer);
-        program.allow(PROT_READ);
-        set.allow(PROT_READ);
+                      call.set.size(), out.place(lent.out, at_end), call.room, state.place(call.state, at_end),
+                      call.state.size()};
+        std::uint64_t expected = calls::by_reference(call, lent);
+        protect(call.operation, PROT_READ);
         under_way = &call;
         is_at_end = at_end;
         std::uint64_t got = calls::by_library(call.operation, slices, call.rule);
-        program.allow(PROT_READ | PROT_WRITE);
-        set.allow(PROT_READ | PROT_WRITE);
+        protect(call.operation, PROT_READ | PROT_WRITE);
         if (at_end) tallies[call.operation].count(call.operation, expected);
-        if (got == expected && std::equal(buffer.begin(), buffer.end(), slices.out)) return true;
-        calls::print_difference(call, expected, buffer, got, slices.out);
+        if (got == expected && calls::is_as(lent, slices)) return true;
+        calls::print_difference(call, expected, lent, got, slices);
         return false;
     }
     calls::Tallies tallies{};
 
 private:
-    // One byte above the longest program, and room for every result, ample rooms too.
-    Fenced program{reference::plain_limits.length + 8}, set{40000}, out{14 * reference::plain_limits.length};
+    // What the call only reads: begin writes nothing to the buffer, and a state's length is told without changing it.
+    void protect(unsigned operation, int access)
+    {
+        program.allow(access);
+        set.allow(access);
+        if (operation == calls::begin) out.allow(access);
+        if (operation == calls::assembled) state.allow(access);
+    }
+
+    // One byte above the longest program, and room for every result, ample rooms too; states of twice their length.
+    Fenced program{reference::plain_limits.length + 8}, set{40000}, out{14 * reference::plain_limits.length},
+        state{2 * reference::state_length};
 };
 
 int run_fences()
@@ -169,38 +189,58 @@ public:
     std::uint8_t *const start;
 };
 
-std::size_t bytes_written(const Call &call, std::uint64_t word)
+// Where a call writes in its output slice.
+struct Written {
+    std::size_t start, end;
+};
+
+Written written_by(const Call &call, std::uint64_t word, const Bytes &state_after)
 {
     constexpr std::uint64_t smaller = 3;
-    if (word >> 63 || !calls::exports[call.operation].takes_out) return 0;
-    if (!calls::is_check(call.operation)) return word;
-    return word >> 32 == smaller ? word & 0xffffffff : 0;
+    constexpr std::size_t end_record = 4;
+    if (word >> 63 || !calls::exports[call.operation].takes_out) return {0, 0};
+    std::size_t held = reference::assembled(call.state) - end_record;
+    switch (call.operation) {
+    case calls::begin: return {0, 0};
+    case calls::add: return {held, reference::assembled(state_after) - end_record};
+    case calls::close: return {held, held + end_record};
+    default: break;
+    }
+    if (!calls::is_check(call.operation)) return {0, word};
+    return {0, word >> 32 == smaller ? word & 0xffffffff : 0};
 }
 
-// True if the first `written` bytes are defined and no other byte was written, not even with what it held.
-bool is_defined_as_written(const std::uint8_t *out, std::size_t room, std::size_t written)
+// True if what is written is defined and no other byte was written, not even with what it held.
+bool is_defined_as_written(const std::uint8_t *out, std::size_t room, Written written)
 {
     if (!RUNNING_ON_VALGRIND) return true;
-    if (VALGRIND_CHECK_MEM_IS_DEFINED(out, written) != 0) return false;
+    if (VALGRIND_CHECK_MEM_IS_DEFINED(out + written.start, written.end - written.start) != 0) return false;
     Bytes bits(room);
     (void)VALGRIND_GET_VBITS(out, bits.data(), room);
-    return std::all_of(bits.begin() + written, bits.end(), [](std::uint8_t undefined) { return undefined == 0xff; });
+    auto is_undefined = [](std::uint8_t undefined) { return undefined == 0xff; };
+    return std::all_of(bits.begin(), bits.begin() + written.start, is_undefined) &&
+           std::all_of(bits.begin() + written.end, bits.end(), is_undefined);
 }
 
 bool heap_agrees(const Call &call, calls::Tallies &tallies)
 {
-    Bytes buffer = calls::filling(call.room, 7);
-    Block program(call.program), set(call.set), out(buffer);
-    std::uint64_t expected = calls::by_reference(call, buffer);
+    calls::Lent lent = calls::lent_to(call, 7);
+    Block program(call.program), set(call.set), out(lent.out), state(call.state);
+    std::uint64_t expected = calls::by_reference(call, lent);
     (void)VALGRIND_MAKE_MEM_UNDEFINED(out.start, call.room);
-    Slices slices{program.start, call.program.size(), set.start, call.set.size(), out.start, call.room};
+    Slices slices{program.start, call.program.size(), set.start,   call.set.size(), out.start, call.room,
+                  state.start,   call.state.size()};
     std::uint64_t got = calls::by_library(call.operation, slices, call.rule);
     tallies[call.operation].count(call.operation, expected);
+    Written written = written_by(call, got, lent.state);
     bool is_defined = VALGRIND_CHECK_VALUE_IS_DEFINED(got) == 0 && got == expected &&
-                      is_defined_as_written(out.start, call.room, bytes_written(call, got));
-    if (is_defined && std::equal(buffer.begin(), buffer.begin() + bytes_written(call, got), out.start)) return true;
+                      VALGRIND_CHECK_MEM_IS_DEFINED(state.start, call.state.size()) == 0 &&
+                      is_defined_as_written(out.start, call.room, written);
+    if (is_defined && std::equal(lent.state.begin(), lent.state.end(), state.start) &&
+        std::equal(lent.out.begin() + written.start, lent.out.begin() + written.end, out.start + written.start))
+        return true;
     if (!is_defined) std::puts("an undefined answer or byte of a result, or a write behind the result");
-    calls::print_difference(call, expected, buffer, got, out.start);
+    calls::print_difference(call, expected, lent, got, slices);
     return false;
 }
 
@@ -239,10 +279,12 @@ void *call_on_painted(void *given)
 std::size_t stack_of(const Call &call, std::uint8_t *stack)
 {
     Bytes out(call.room + 1);
-    Bytes program = call.program, set = call.set;
-    program.push_back(0); // so that no pointer is null
-    set.push_back(0);
-    Painted painted{&call, {program.data(), call.program.size(), set.data(), call.set.size(), out.data(), call.room}, 0,
+    Bytes program = call.program, set = call.set, state = call.state;
+    for (Bytes *part : {&program, &set, &state}) part->push_back(0); // so that no pointer is null
+    Painted painted{&call,
+                    {program.data(), call.program.size(), set.data(), call.set.size(), out.data(), call.room, state.data(),
+                     call.state.size()},
+                    0,
                     nullptr};
     std::memset(stack, paint, stack_size);
     pthread_attr_t attributes;
@@ -278,7 +320,7 @@ void visit_most_appended(const Visit &visit)
     for (unsigned number = 1; number <= reference::checked_set; ++number) set.push_back({reference::atom, 0, number});
     for (unsigned operation = 0; operation < calls::exports.size(); ++operation) {
         const calls::Export &taken = calls::exports[operation];
-        if (taken.form != calls::Form::source) continue;
+        if (taken.form != calls::Form::source || taken.takes_state) continue;
         Call call;
         call.operation = operation;
         call.program = cases::most_appended();
@@ -287,6 +329,17 @@ void visit_most_appended(const Visit &visit)
         if (taken.takes_out) call.room = reference::plain_limits.length;
         visit(call);
     }
+}
+
+// An assembly of as many of the widest rules as there can be.
+void visit_full_assembly(const Visit &visit)
+{
+    cases::Random random(seed);
+    scripts::Writer writer(reference::source_limits.length);
+    writer.step(calls::begin);
+    for (std::size_t i = 0; i <= reference::source_limits.rules; ++i) writer.step(calls::add, cases::widest_record(random));
+    for (unsigned operation : {calls::assembled, calls::drop, calls::close, calls::begin}) writer.step(operation);
+    for (const Call &call : writer.written().steps) visit(call);
 }
 
 // What README and the header promise, with room for frames beside the arrays.
@@ -299,6 +352,11 @@ std::size_t most_stack(unsigned operation)
     case calls::translate:
     case calls::quotient_source: return 224 << 10;
     case calls::aspif: return 96 << 10;
+    case calls::begin:
+    case calls::add:
+    case calls::drop:
+    case calls::close:
+    case calls::assembled: return 1 << 10;
     default: return 4 << 10;
     }
 }
@@ -336,6 +394,7 @@ int run_stack()
     visit_batches(Style::disjunctive, 40, measure);
     visit_deepest(measure);
     visit_most_appended(measure);
+    visit_full_assembly(measure);
     bool well = true;
     std::puts("export            stack in bytes, of at most; without sheets, of at most");
     for (unsigned i = 0; i < calls::exports.size(); ++i) {

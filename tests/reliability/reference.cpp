@@ -221,6 +221,62 @@ Written read_program(Form form, const Bytes &bytes)
     }
 }
 
+// ---- Program assembly (document 02, ask 4)
+
+enum Stage : std::uint8_t { not_begun, is_open, is_closed };
+
+constexpr std::size_t end_length = 4;
+
+// The head literals of a rule, by its byte in a state.
+std::size_t heads_of(std::uint8_t byte)
+{
+    return byte < 128 ? byte : byte - 127u;
+}
+
+// Whether some history of calls gives these bytes back.
+bool is_state(const Bytes &state)
+{
+    const Limits most = source_limits;
+    if (state.size() != state_length || state[0] > is_closed) return false;
+    for (std::size_t free : {1, 4, 5, 6, 7})
+        if (state[free] != 0) return false;
+    std::size_t held = two_bytes(state, 2);
+    if (held > (state[0] == not_begun ? 0 : most.rules)) return false;
+    for (std::size_t i = 0; i < most.rules; ++i) {
+        std::uint8_t head = state[state_heads + i], body = state[state_bodies + i];
+        if (i >= held && (head != 0 || body != 0)) return false;
+        if (heads_of(head) > most.head || body > most.positive + most.naf) return false;
+    }
+    return true;
+}
+
+// The bytes of the records that a state holds.
+std::size_t held_length(const Bytes &state)
+{
+    std::size_t length = 0;
+    for (std::size_t i = 0; i < two_bytes(state, 2); ++i)
+        length += 7 + 5 * (heads_of(state[state_heads + i]) + state[state_bodies + i]);
+    return length;
+}
+
+void expect_open(const Bytes &state)
+{
+    if (!is_state(state) || state[0] != is_open) throw Refusal{15, 0};
+}
+
+// Room for records of so many bytes and an end record.
+void expect_room(const Bytes &buffer, std::size_t records)
+{
+    if (buffer.size() < records + end_length) throw Refusal{9, 0};
+}
+
+std::uint64_t set_held(Bytes &state, std::size_t rules)
+{
+    state[2] = static_cast<std::uint8_t>(rules / 256);
+    state[3] = static_cast<std::uint8_t>(rules % 256);
+    return rules;
+}
+
 // ---- Sets
 
 Literals read_set(Form form, const Bytes &bytes, std::size_t most)
@@ -742,6 +798,64 @@ std::uint64_t check(Form form, const Bytes &program, const Bytes &set, Bytes &bu
         if (buffer.size() < set.size()) throw Refusal{9, 0};
         return judge(rules, literals, buffer);
     });
+}
+
+std::uint64_t begin(Bytes &state, const Bytes &buffer)
+{
+    return word_of([&] {
+        if (state.size() != state_length) throw Refusal{15, 0};
+        expect_room(buffer, 0);
+        state.assign(state_length, 0);
+        state[0] = is_open;
+        return std::uint64_t{0};
+    });
+}
+
+std::uint64_t add(Bytes &state, const Bytes &record, Bytes &buffer)
+{
+    return word_of([&] {
+        expect_open(state);
+        if (record.size() < 2) throw Refusal{2, 0};
+        if (!is_mark(record, 0, 'S') && !is_mark(record, 0, 'D')) throw Refusal{3, 0};
+        std::size_t held = two_bytes(state, 2), at = held_length(state);
+        Rule rule = read_rule(Form::source, record, 0, held);
+        expect_room(buffer, at + rule.length);
+        std::copy_n(record.begin(), rule.length, buffer.begin() + at);
+        state[state_heads + held] = static_cast<std::uint8_t>(rule.head.size() + (rule.defeasible ? 127 : 0));
+        state[state_bodies + held] = static_cast<std::uint8_t>(rule.positive.size() + rule.naf.size());
+        return set_held(state, held + 1);
+    });
+}
+
+std::uint64_t drop(Bytes &state)
+{
+    return word_of([&] {
+        expect_open(state);
+        std::size_t held = two_bytes(state, 2);
+        if (held == 0) throw Refusal{15, 0};
+        state[state_heads + held - 1] = state[state_bodies + held - 1] = 0;
+        return set_held(state, held - 1);
+    });
+}
+
+std::uint64_t close(Bytes &state, Bytes &buffer)
+{
+    return word_of([&] {
+        expect_open(state);
+        std::size_t at = held_length(state);
+        expect_room(buffer, at);
+        Bytes end;
+        put_mark(end, 'E');
+        put_two_bytes(end, two_bytes(state, 2));
+        std::copy(end.begin(), end.end(), buffer.begin() + at);
+        state[0] = is_closed;
+        return std::uint64_t{two_bytes(state, 2)};
+    });
+}
+
+std::uint64_t assembled(const Bytes &state)
+{
+    return end_length + (is_state(state) ? held_length(state) : 0);
 }
 
 } // namespace reference

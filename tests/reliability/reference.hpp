@@ -1,6 +1,6 @@
 // A second reference, in C++ so that millions of calls can be compared: every operation of document 01, document 02's
-// export to aspif and its preference sheets, written from those documents and from include/aspda.h, without the
-// library's definitions or code and without the Python reference.
+// export to aspif, its preference sheets and its program assembly, written from those documents and from include/aspda.h,
+// without the library's definitions or code and without the Python reference.
 // It is written for plainness: a program becomes a vector of rules, a set a sorted vector.
 #pragma once
 
@@ -52,6 +52,12 @@ constexpr std::size_t aspif_bound(std::size_t length)
 {
     return 2 * length + 29012;
 }
+
+// An assembly's state has so many bytes. Byte 0 is its stage: 0 before the first begin, 1 open, 2 closed. Bytes 2 and 3 are
+// the number of rules held. From `state_heads` on there is a byte for each rule, a strict one's number of head literals and
+// a defeasible one's plus 127; from `state_bodies` on one for each rule's number of body literals. All else is 0.
+constexpr std::size_t state_length = 520, state_heads = 8, state_bodies = state_heads + source_limits.rules;
+static_assert(state_bodies + source_limits.rules == state_length);
 
 // In the order of the fields, which is the order of the bytes.
 struct Literal {
@@ -116,5 +122,12 @@ std::uint64_t extend(const Bytes &source, const Bytes &set, Bytes &buffer);
 std::uint64_t restriction(const Bytes &set, Bytes &buffer);
 std::uint64_t aspif(const Bytes &program, Bytes &buffer);
 std::uint64_t check(Form form, const Bytes &program, const Bytes &set, Bytes &buffer);
+
+// Program assembly (document 02, ask 4): `state` is lent and changed, as `buffer` is.
+std::uint64_t begin(Bytes &state, const Bytes &buffer);
+std::uint64_t add(Bytes &state, const Bytes &record, Bytes &buffer);
+std::uint64_t drop(Bytes &state);
+std::uint64_t close(Bytes &state, Bytes &buffer);
+std::uint64_t assembled(const Bytes &state);
 
 } // namespace reference

@@ -61,6 +61,7 @@ private:
 };
 
 constexpr unsigned not_an_export = calls::exports.size();
+constexpr unsigned salt = 89;
 
 unsigned operation_named(const std::string &name)
 {
@@ -70,25 +71,68 @@ unsigned operation_named(const std::string &name)
     return operation;
 }
 
-// Reads a row and compares; true unless the reference differs from it.
-bool row_agrees(File &file, const std::vector<unsigned> &operations, calls::Tallies &tallies)
-{
+// A row: a call, its word, and what it was lent as it is afterwards.
+struct Row {
+    std::string name;
     calls::Call call;
+    std::uint64_t word;
+    calls::Lent after;
+};
+
+// A buffer with bytes written to it from a place on.
+Bytes written_to(Bytes buffer, std::size_t start, const Bytes &written)
+{
+    if (start + written.size() > buffer.size()) throw std::runtime_error("a row writes outside its buffer");
+    std::copy(written.begin(), written.end(), buffer.begin() + start);
+    return buffer;
+}
+
+Row read_row(File &file, const std::vector<unsigned> &operations)
+{
+    Row row;
+    calls::Call &call = row.call;
     call.operation = operations.at(file.number(1));
-    std::string name = file.text();
+    row.name = file.text();
     call.program = file.slice();
     call.set = file.slice();
     call.rule = static_cast<std::uint32_t>(file.number(4));
     call.room = file.number(4);
-    std::uint64_t word = file.number(8);
-    Bytes written = file.slice(), buffer = calls::filling(call.room, 89), wanted = buffer;
-    if (call.operation == not_an_export) return true;
-    std::copy(written.begin(), written.end(), wanted.begin());
-    std::uint64_t got = calls::by_reference(call, buffer);
-    tallies[call.operation].count(call.operation, got);
-    if (got == word && buffer == wanted) return true;
-    std::printf("the vectors' row %s\n", name.c_str());
-    calls::print_difference(call, got, buffer, word, wanted.data());
+    row.word = file.number(8);
+    Bytes written = file.slice();
+    // The filter writes to no lent buffer, and its rows are passed over.
+    if (call.operation != not_an_export) row.after.out = written_to(calls::filling(call.room, salt), 0, written);
+    return row;
+}
+
+Row read_assembly_row(File &file, const std::vector<unsigned> &operations)
+{
+    Row row;
+    calls::Call &call = row.call;
+    call.operation = operations.at(file.number(1));
+    row.name = file.text();
+    call.state = file.slice();
+    call.program = file.slice();
+    call.room = file.number(4);
+    row.word = file.number(8);
+    row.after.state = file.slice();
+    std::size_t start = file.number(4);
+    row.after.out = written_to(calls::filling(call.room, salt), start, file.slice());
+    return row;
+}
+
+// True unless the reference differs from the row.
+bool agrees(Row row, calls::Tallies &tallies)
+{
+    if (row.call.operation == not_an_export) return true;
+    calls::Lent lent = calls::lent_to(row.call, salt);
+    std::uint64_t got = calls::by_reference(row.call, lent);
+    tallies[row.call.operation].count(row.call.operation, got);
+    if (got == row.word && lent == row.after) return true;
+    std::printf("the vectors' row %s\n", row.name.c_str());
+    calls::Slices slices{};
+    slices.out = row.after.out.data();
+    slices.state = row.after.state.data();
+    calls::print_difference(row.call, got, lent, row.word, slices);
     return false;
 }
 
@@ -103,7 +147,11 @@ bool all_agree(File &file, calls::Tallies &tallies)
         case 'B': file.blobs.push_back(file.take(file.number(4))); break;
         case 'R':
             ++rows;
-            if (!row_agrees(file, operations, tallies)) return false;
+            if (!agrees(read_row(file, operations), tallies)) return false;
+            break;
+        case 'A':
+            ++rows;
+            if (!agrees(read_assembly_row(file, operations), tallies)) return false;
             break;
         case 'E':
             if (file.number(4) != rows) throw std::runtime_error("the vector file's number of rows is wrong");

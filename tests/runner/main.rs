@@ -173,6 +173,7 @@ impl Guarded {
 fn export_differences(operation: &Operation, row: &Row, flip: u8) -> Vec<String> {
     let program = Guarded::new(&row.program, flip);
     let set = Guarded::new(&row.set, flip);
+    let mut state = Guarded::new(&row.state, flip);
     let lent = filling(row.room, flip);
     let mut out = Guarded::new(&lent, flip);
     let inputs = Inputs {
@@ -180,19 +181,29 @@ fn export_differences(operation: &Operation, row: &Row, flip: u8) -> Vec<String>
         set: set.inner(),
         rule: row.rule,
     };
-    let word = operation.call(&inputs, out.inner_mut());
+    let word = operation.call(&inputs, state.inner_mut(), out.inner_mut());
 
     let mut found = Vec::new();
     if word != row.word {
         found.push(format!("expected {}, got {}", words(row.word), words(word)));
     }
-    let expected = [&row.written, &lent[row.written.len().min(lent.len())..]].concat();
+    let expected = with_written(&lent, row);
     if let Some(place) = first_difference(&expected, out.inner()) {
         found.push(format!(
             "lent buffer of {} bytes, at {place}: {}",
             row.room,
             both(&expected, out.inner(), place)
         ));
+    }
+    if let Some(place) = first_difference(&row.state_after, state.inner()) {
+        found.push(format!(
+            "state of {} bytes, at {place}: {}",
+            row.state.len(),
+            both(&row.state_after, state.inner(), place)
+        ));
+    }
+    if !state.is_guarded() {
+        found.push("bytes outside the state were written".to_string());
     }
     for (name, slice, given) in [("program", &program, &row.program), ("set", &set, &row.set)] {
         if slice.inner() != given.as_slice() || !slice.is_guarded() {
@@ -203,6 +214,13 @@ fn export_differences(operation: &Operation, row: &Row, flip: u8) -> Vec<String>
         found.push("bytes outside the lent buffer were written".to_string());
     }
     found
+}
+
+/// The lent buffer with what the row's call writes.
+fn with_written(lent: &[u8], row: &Row) -> Vec<u8> {
+    let start = row.start.min(lent.len());
+    let end = (start + row.written.len()).min(lent.len());
+    [&lent[..start], &row.written, &lent[end..]].concat()
 }
 
 fn first_difference(expected: &[u8], got: &[u8]) -> Option<usize> {

@@ -4,17 +4,24 @@ use std::io::Read;
 
 const MAGIC: &[u8] = b"aspda vectors 1\n";
 
-/// One call and its outcome.
+/// One call and its outcome. What the entry does not have is empty or 0.
 pub struct Row {
     pub operation: String,
     pub name: String,
+    /// The state before a call of program assembly.
+    pub state: Vec<u8>,
+    /// Of such a call the record.
     pub program: Vec<u8>,
     pub set: Vec<u8>,
     pub rule: u32,
     /// The length of the lent buffer.
     pub room: usize,
     pub word: u64,
-    /// What the lent buffer starts with after the call.
+    /// The state after the call.
+    pub state_after: Vec<u8>,
+    /// Where in the lent buffer the call wrote.
+    pub start: usize,
+    /// What stands there after the call.
     pub written: Vec<u8>,
 }
 
@@ -53,6 +60,7 @@ impl Vectors {
                     self.blobs.push(blob);
                 }
                 b'R' => return self.row().map(Some),
+                b'A' => return self.assembly_row().map(Some),
                 b'E' => return self.end(),
                 other => return Err(format!("unknown entry {other} in the vector file")),
             }
@@ -61,21 +69,42 @@ impl Vectors {
 
     fn row(&mut self) -> Result<Row, String> {
         self.rows += 1;
-        let operation = usize::from(self.byte()?);
         Ok(Row {
-            operation: self
-                .operations
-                .get(operation)
-                .ok_or("unknown operation")?
-                .clone(),
+            operation: self.operation()?,
             name: self.text()?,
+            state: Vec::new(),
             program: self.slice()?,
             set: self.slice()?,
             rule: self.number()?,
             room: self.size()?,
             word: u64::from_be_bytes(self.fixed()?),
+            state_after: Vec::new(),
+            start: 0,
             written: self.slice()?,
         })
+    }
+
+    fn assembly_row(&mut self) -> Result<Row, String> {
+        self.rows += 1;
+        Ok(Row {
+            operation: self.operation()?,
+            name: self.text()?,
+            state: self.slice()?,
+            program: self.slice()?,
+            set: Vec::new(),
+            rule: 0,
+            room: self.size()?,
+            word: u64::from_be_bytes(self.fixed()?),
+            state_after: self.slice()?,
+            start: self.size()?,
+            written: self.slice()?,
+        })
+    }
+
+    fn operation(&mut self) -> Result<String, String> {
+        let number = usize::from(self.byte()?);
+        let name = self.operations.get(number).ok_or("unknown operation")?;
+        Ok(name.clone())
     }
 
     fn end(&mut self) -> Result<Option<Row>, String> {

@@ -4,3 +4,4 @@ pub mod Verdicts
 pub mod Lengths
 pub mod Told
 pub mod Exports
+pub mod Assembly

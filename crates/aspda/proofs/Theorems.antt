@@ -78,11 +78,12 @@ use Rattle.check_set.specs.Verdict.{verdictOf, witness}
 use Rattle.check_set.specs.Check.{found, Checked, checkedOf, checked}
 use Rattle.aspda_word.specs.Words.{ToldWritten}
 use Rattle.aspda.specs.Example.{exampleOptions, exampleSheets, exampleDefeats}
-use Rattle.aspda.specs.Claims.{Means, Reading, Signing, Expanding, Quotients, Quotient, Extending, Checks, Checking, Shows, Showing, Translates, Translating, Exporting, Tells, Words}
+use Rattle.aspda.specs.Claims.{Means, Reading, Signing, Expanding, Quotients, Quotient, Extending, Checks, Checking, Shows, Showing, Translates, Translating, Exporting, Assembling, Tells, Words}
 use Rattle.aspda.proofs.Laws.Lengths.{program-wide, quotient-no-longer, quotient-unsheeted, extension-at-most, restriction-no-longer}
 use Rattle.aspda.proofs.Laws.Fit.{rules-fit}
 use Rattle.aspda.proofs.Laws.Exports.{names-of-text, text-bound, text-match, text-exports, exported-told}
 use Rattle.aspda.proofs.Laws.Told.{bounded, bounded-then, told-delivered, told-read, told-show, told-checked, told-quotiented, told-extended, told-restricted}
+use Rattle.aspda.proofs.Laws.Assembly.{one-call, promised, told-called, assembled-small}
 
 means : (F : Limits) → Means F
 means F = record { program = items-parsed F; count = items-counted F }
@@ -365,6 +366,9 @@ translating =
 pub exporting : Exporting
 exporting = record { exports = text-exports; bound = text-bound; matches = text-match; names-said = names-of-text }
 
+pub assembling : Assembling
+assembling = record { calling = one-call; promise = promised }
+
 tells : (F : Limits) → F .length + 17 * mostAppended F < 2147483648 → F .rules + mostAppended F < 4294967296 → 4 + 5 * F .checked < 4294967296 → Tells F
 tells F long rules sets =
     record {
@@ -396,4 +400,6 @@ words =
       exports = exported-told;
       extends = λ b k out bytes chars. told-extended source (omega arith) b bytes extendable-source k out chars;
       restricts = λ k out bytes. told-restricted plain (omega arith) k out bytes;
+      calls = told-called;
+      assembles = assembled-small;
     }

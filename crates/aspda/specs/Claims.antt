@@ -1,12 +1,12 @@
 -- What is to be believed of the library, as types in the order of its demands. `proofs/Theorems.antt` proves each.
 -- The functions' contracts say that they answer what the definitions give, so these claims are about the functions.
--- In order: reading; signs; what sheets append; quotients; extension and restriction; the check; show; translating; exporting; words.
+-- In order: reading; signs; what sheets append; quotients; extension and restriction; the check; show; translating; exporting; assembly; words.
 -- Assumes nothing.
-use Prim.Native.Nat.{ℕ, _+_, _*_, _≤_}
+use Prim.Native.Nat.{ℕ, _+_, _*_, _^_, _≤_, _<_}
 use mathlib.Core.Path.{_≡_}
 use mathlib.Core.Logic.{_↔_}
-use mathlib.Core.Bool.{cond, not, _||_}
-use mathlib.Core.List.{List, _∷_, _++_, map}
+use mathlib.Core.Bool.{false, cond, not, _||_}
+use mathlib.Core.List.{List, [], _∷_, _++_, map}
 use mathlib.Core.Option.{some}
 use lib.Dec.{T, eqb}
 use lib.ListN.{length, getD, take, drop}
@@ -32,7 +32,8 @@ use Rattle.record.specs.declared.Refusal.{Refusal}
 use Rattle.record.specs.declared.Written.the-variants.{Length}
 use Rattle.record.specs.Result.{accepted}
 use Rattle.record.specs.declared.Reading.the-variants.{Count}
-use Rattle.record.specs.Layout.{encodedRule, encodedProgram, keeps, encodedItems, encodedFile, keepsFile}
+use Rattle.record.specs.declared.Reading.{Reading as Answer}
+use Rattle.record.specs.Layout.{encodedRule, encodedRules, encodedProgram, keeps, encodedItems, encodedFile, keepsFile}
 use Rattle.record.specs.Reading.{items, parsed, reading}
 use Rattle.record_show.specs.declared.Extent.{Extent}
 use Rattle.record_show.specs.declared.Shown.the-variants.{At, Refused}
@@ -53,6 +54,9 @@ use Rattle.check_set.specs.declared.Verdict.the-variants.{Yes}
 use Rattle.check_set.specs.declared.Check.the-variants.{Found}
 use Rattle.check_set.specs.Verdict.{verdictOf, witness}
 use Rattle.check_set.specs.Check.{checked}
+use Rattle.assembly.specs.State.{Stage, before, opened, closed, Shape, shapes, keepsStage, stateBytes, encodedStage, isState, stageOf}
+use Rattle.assembly.specs.Calls.{Call, begin, dropLast, close, called, assembled}
+use Rattle.assembly.specs.History.{Session, calledIn, after, run, rulesAfter, BytesIn, AllBytes, GivenBack}
 use Rattle.aspda_word.specs.Words.{ToldReading, ToldWritten, ToldShown, ToldCheck}
 use Rattle.aspda.specs.Example.{exampleOptions, exampleSheets, exampleDefeats}
 
@@ -229,6 +233,57 @@ pub record Exporting : Type 0 where
   -- and the names that it says are those of p's atoms and negated atoms, with their numbers
   pub names-said : (p : Program) (xs : List Statement) → says (aspifText p) ≡ some xs → outputsOf xs ≡ map outputOf (names p)
 
+-- 02's Ask 4, one call of an assembly, on any bytes as a state and any lent buffer
+pub record Calling : Type 0 where
+  -- a refused call changes neither state nor buffer
+  pub refused-same : (c : Call) (st out : List ℕ) (x : Refusal) → called source c st out .answer ≡ Answer.Refused x
+      → (called source c st out .state ≡ st) × (called source c st out .buffer ≡ out)
+  -- answers and states do not depend on the buffer's bytes
+  pub blind : (c : Call) (st out other : List ℕ) → length out ≡ length other
+      → (called source c st out .answer ≡ called source c st other .answer) × (called source c st out .state ≡ called source c st other .state)
+  -- begin and drop write nothing
+  pub begin-silent : (st out : List ℕ) → called source begin st out .buffer ≡ out
+  pub drop-silent : (st out : List ℕ) → called source dropLast st out .buffer ≡ out
+  -- an accepted call answers how many rules are then held
+  pub counts : (c : Call) → BytesIn c → (st out : List ℕ) → Bytes st → (n : ℕ) → called source c st out .answer ≡ Count n
+      → length (shapes (stageOf source (called source c st out .state))) ≡ n
+  -- a state has 520 bytes; bytes are a state exactly if they are those of a stage within the limits, and exactly if some history of calls,
+  -- begun from zeros, gives them back; all else counts as a state before the first begin
+  pub bytes : stateBytes source ≡ 520
+  pub states : (bs : List ℕ) → Bytes bs → T (isState source bs) ↔ ((s : Stage) × T (keepsStage source s) × (bs ≡ encodedStage source s))
+  pub given-back : (bs : List ℕ) → Bytes bs → T (isState source bs) ↔ GivenBack source bs
+  pub others : (bs : List ℕ) → isState source bs ≡ false → stageOf source bs ≡ before
+  -- a call on a state gives back a state, whatever buffers the calls before it were lent; and so does an accepted begin on any bytes
+  pub stays : (c : Call) → BytesIn c → (st out : List ℕ) → Bytes st → T (isState source st) → T (isState source (called source c st out .state))
+  pub begins : (st out : List ℕ) → called source begin st out .answer ≡ Count 0 → T (isState source (called source begin st out .state))
+
+-- what a session, and the rules p that were added and not dropped, come to
+pub record Assembled (s : Session) (p : Program) : Type 0 where
+  -- so many rules are held, and so long is the closed program
+  pub counts : length (shapes (stageOf source (s .state))) ≡ length p
+  pub measures : assembled source (s .state) ≡ length (encodedProgram p)
+  -- closing is never refused
+  pub closes : (ss : List Shape) → stageOf source (s .state) ≡ opened ss → calledIn source close s .answer ≡ Count (length p)
+  -- when it is closed, reading accepts the bytes to the last of the end record as these rules, in order
+  pub reads : (ss : List Shape) → stageOf source (s .state) ≡ closed ss
+      → items source (take (assembled source (s .state)) (s .buffer)) ≡ accepted (map rule p)
+  -- and show gives each of them, by its number
+  pub shows : (ss : List Shape) → stageOf source (s .state) ≡ closed ss → Bytes (s .buffer) → (front : Program) (r : Rule) (rest : Program) → p ≡ front ++ (r ∷ rest)
+      → (shown source (take (assembled source (s .state)) (s .buffer)) (length front + 1)
+      ≡ At (record { start = length (encodedRules front); size = length (encodedRule r) }))
+      × (take (length (encodedRule r)) (drop (length (encodedRules front)) (take (assembled source (s .state)) (s .buffer))) ≡ encodedRule r)
+
+-- the promise over a history: an accepted begin, and any calls that each get the state that the one before gave back and are lent the same
+-- buffer, which only they write. The rules are those added since the last accepted begin and not dropped
+abbrev pub Assembles : Type 0
+Assembles =
+    (s : Session) → calledIn source begin s .answer ≡ Count 0 → (cs : List Call) → AllBytes cs
+    → Assembled (run source cs (after source begin s)) (rulesAfter source cs (after source begin s) [])
+
+pub record Assembling : Type 0 where
+  pub calling : Calling
+  pub promise : Assembles
+
 -- the words that the exports answer, in a form: a word is 2^63 or more exactly for a refusal, so that its highest bit tells a
 -- caller. The slices hold bytes; nothing is assumed of their lengths
 pub record Tells (F : Limits) : Type 0 where
@@ -246,3 +301,6 @@ pub record Words : Type 0 where
   pub exports : (b out : List ℕ) → Bytes b → ToldWritten (exported plain b out .answer)
   pub extends : (b k out : List ℕ) → Bytes b → Bytes k → ToldWritten (extended source b k out .answer)
   pub restricts : (k out : List ℕ) → Bytes k → ToldWritten (restricted plain k out .answer)
+  -- the rules that an assembly holds, and the length that is assembled
+  pub calls : (c : Call) → BytesIn c → (st out : List ℕ) → Bytes st → ToldReading (called source c st out .answer)
+  pub assembles : (st : List ℕ) → Bytes st → assembled source st < 2 ^ 63

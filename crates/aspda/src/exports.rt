@@ -5,6 +5,11 @@ use aspda_word::word::reading_word;
 use aspda_word::word::shown_word;
 use aspda_word::word::written_word;
 use aspif::aspif::export_plain;
+use assembly_call::call::add_record;
+use assembly_call::call::begin_state;
+use assembly_call::call::close_state;
+use assembly_call::call::drop_last;
+use assembly_call::call::measure_state;
 use check_set::proposed::check_plain;
 use check_set::proposed::check_source;
 use extend::extend::extend_source;
@@ -17,6 +22,7 @@ use record_show::show::find_source;
 use restrict::restrict::restrict_plain;
 use translate::translate::translate_source;
 ghost use mathlib.Core.Path.{_≡_};
+ghost use mathlib.Core.List.{[]};
 ghost use Rattle.literal.specs.Limits.{source, plain};
 ghost use Rattle.record.specs.Reading.{reading};
 ghost use Rattle.record_show.specs.Show.{shown};
@@ -26,7 +32,8 @@ ghost use Rattle.aspif.specs.Aspif.{exported};
 ghost use Rattle.extend.specs.Extend.{extended};
 ghost use Rattle.restrict.specs.Restrict.{restricted};
 ghost use Rattle.check_set.specs.Check.{checked};
-ghost use Rattle.aspda_word.specs.Words.{readingWord, shownWord, MeetsWord, MeetsVerdict};
+ghost use Rattle.assembly.specs.Calls.{begin, add, dropLast, close, called, assembled};
+ghost use Rattle.aspda_word.specs.Words.{readingWord, shownWord, KeepsWord, CallsWord, MeetsWord, MeetsVerdict};
 
 // The number of rules of a source, or the refusal.
 #[no_mangle]
@@ -122,4 +129,44 @@ pub extern "C" fn aspda_show_plain(s: &[u8], number: u32) -> u64
     ensures { λ r. ⌜ r ≡ shownWord (shown plain (now (s .entry)) number) ⌝ }
 {
     shown_word(find_plain(s, number))
+}
+
+// Starts an assembly afresh: no rule is held. `out` is the buffer that the calls to come are lent, and is not written.
+#[no_mangle]
+pub extern "C" fn aspda_begin(state: &mut [u8], out: &[u8]) -> u64
+    ensures { λ r. ⌜ KeepsWord (called source begin (now (state .entry)) (now (out .entry))) r (now (state .exit)) ⌝ }
+{
+    reading_word(begin_state(state, out))
+}
+
+// Adds a rule's record behind those that are held, which is written there in `out`: the number of rules then held, or the refusal.
+#[no_mangle]
+pub extern "C" fn aspda_add(state: &mut [u8], rule: &[u8], out: &mut [u8]) -> u64
+    ensures { λ r. ⌜ CallsWord (called source (add (now (rule .entry))) (now (state .entry)) (now (out .entry))) r (now (state .exit)) (now (out .exit)) ⌝ }
+{
+    reading_word(add_record(state, rule, out))
+}
+
+// Drops the last rule: the number of rules then held, or the refusal.
+#[no_mangle]
+pub extern "C" fn aspda_drop(state: &mut [u8]) -> u64
+    ensures { λ r. ⌜ KeepsWord (called source dropLast (now (state .entry)) []) r (now (state .exit)) ⌝ }
+{
+    reading_word(drop_last(state))
+}
+
+// Closes an assembly: the end record is written behind the rules in `out`. The number of rules held, or the refusal.
+#[no_mangle]
+pub extern "C" fn aspda_close(state: &mut [u8], out: &mut [u8]) -> u64
+    ensures { λ r. ⌜ CallsWord (called source close (now (state .entry)) (now (out .entry))) r (now (state .exit)) (now (out .exit)) ⌝ }
+{
+    reading_word(close_state(state, out))
+}
+
+// The bytes of the rules held and an end record.
+#[no_mangle]
+pub extern "C" fn aspda_assembled(state: &[u8]) -> u64
+    ensures { λ r. ⌜ r ≡ assembled source (now (state .entry)) ⌝ }
+{
+    measure_state(state) as u64
 }

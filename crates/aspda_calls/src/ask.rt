@@ -2,11 +2,13 @@
 
 use crate::tell::tell_bytes;
 use crate::tell::tell_check;
+use crate::tell::tell_length;
 use crate::tell::tell_reading;
 use crate::tell::tell_record;
 use crate::tell::tell_shown;
 use crate::tell::tell_written;
 use aspif::aspif::export_plain;
+use assembly_call::Assembly;
 use check_set::proposed::check_plain;
 use check_set::proposed::check_source;
 use extend::extend::extend_source;
@@ -68,4 +70,40 @@ pub fn ask_set(example: &[u8], s: &[u8], k: &[u8], out: &mut [u8]) {
     ask_quotient(example, s, k, out);
     ask_marks(example, s, k, out);
     ask_check(example, s, k, out);
+}
+
+// A call of an assembly: its answer is told, and the state that it gives back handed on.
+pub fn ask_begin(example: &[u8], state: Assembly, out: &[u8]) -> Assembly {
+    let called = state.begin(out);
+    let answer = called.answer;
+    tell_reading(example, b"Assembly::begin", answer);
+    called.state
+}
+
+pub fn ask_add(example: &[u8], state: Assembly, rule: &[u8], out: &mut [u8]) -> Assembly {
+    let called = state.add(rule, out);
+    let answer = called.answer;
+    tell_reading(example, b"Assembly::add", answer);
+    called.state
+}
+
+pub fn ask_drop(example: &[u8], state: Assembly) -> Assembly {
+    let called = state.drop();
+    let answer = called.answer;
+    tell_reading(example, b"Assembly::drop", answer);
+    called.state
+}
+
+pub fn ask_close(example: &[u8], state: Assembly, out: &mut [u8]) -> Assembly {
+    let called = state.close(out);
+    let answer = called.answer;
+    tell_reading(example, b"Assembly::close", answer);
+    called.state
+}
+
+// The length that is assembled, and the state's bytes.
+pub fn ask_state(example: &[u8], state: Assembly) {
+    tell_length(example, b"Assembly::measure", state.measure());
+    let bytes = state.bytes;
+    tell_bytes(example, b"state", &bytes);
 }

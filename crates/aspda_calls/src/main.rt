@@ -1,16 +1,22 @@
 // A program that calls every entry point that Rattle code has, on document 01's marked examples and document 02's program with
-// the fact 1, and tells what each answers.
+// the fact 1, assembles a program, and tells what each answers.
 // tests/calls.py makes the same lines from the reference alone.
 mod ask;
 mod tell;
 
+use crate::ask::ask_add;
+use crate::ask::ask_begin;
+use crate::ask::ask_close;
+use crate::ask::ask_drop;
 use crate::ask::ask_program;
 use crate::ask::ask_rule;
 use crate::ask::ask_set;
+use crate::ask::ask_state;
 use crate::ask::ask_text;
 use crate::ask::ask_translate;
 use crate::tell::front;
 use crate::tell::tell_written;
+use assembly_call::Assembly;
 use extend::extend::extend_source;
 use record::Written;
 use translate::translate::translate_source;
@@ -182,6 +188,29 @@ fn fact() {
     ask_text(b"fact into 34 bytes", s, &mut short);
 }
 
+// M1's rule and the fact 1, assembled; then a rule more, which is dropped. An end record is no rule's, 27 bytes are one too few for both
+// rules and an end record, and what is closed takes no rule.
+fn assembly() {
+    let rule = b"D:\x00\x07\x01\x00\x00\x00\x00\x00\x00\x01";
+    let fact = b"S:\x00\x00\x01\x00\x00\x00\x00\x00\x00\x01";
+    let mut out = [0u8; 64];
+    let mut short = [0u8; 27];
+    let fresh = ask_drop(b"assembly not begun", Assembly::new());
+    ask_state(b"assembly not begun", fresh);
+    let begun = ask_begin(b"assembly", fresh, &out);
+    let one = ask_add(b"assembly", begun, rule, &mut out);
+    let same = ask_add(b"assembly into 27 bytes", one, fact, &mut short);
+    let two = ask_add(b"assembly", same, fact, &mut out);
+    let three = ask_add(b"assembly", two, rule, &mut out);
+    let dropped = ask_drop(b"assembly", three);
+    let still = ask_add(b"assembly end record", dropped, b"E:\x00\x02", &mut out);
+    ask_state(b"assembly", still);
+    let closed = ask_close(b"assembly", still, &mut out);
+    ask_state(b"assembly closed", closed);
+    ask_program(b"assembled", front(&out, closed.measure()));
+    ask_add(b"assembly closed", closed, rule, &mut out);
+}
+
 fn main() {
     m1();
     m2();
@@ -193,4 +222,5 @@ fn main() {
     m8();
     m9();
     fact();
+    assembly();
 }

@@ -75,6 +75,13 @@ pub fn tell_reading(example: &[u8], call: &[u8], a: Reading) {
     }
 }
 
+// A length.
+pub fn tell_length(example: &[u8], call: &[u8], n: usize) {
+    tell_call(example, call);
+    tell_number(b"", n);
+    tell(b"\n");
+}
+
 // Where the record of a rule lies.
 pub fn tell_shown(example: &[u8], call: &[u8], number: u32, a: Shown) {
     tell_call(example, call);

@@ -1,5 +1,5 @@
 -- The 64-bit words that the exported functions answer. A refusal is 2^63 + number * 2^32 + place, all else is below 2^63.
--- In order: refusals; read; bytes written; show; check; that a word tells a refusal. Not here: that a word has room for an
+-- In order: refusals; read; an assembly's calls; bytes written; show; check; that a word tells a refusal. Not here: that a word has room for an
 -- answer (`Code`).
 -- Assumes nothing.
 use Prim.Native.Nat.{ℕ, _+_, _*_, _^_, _≤_}
@@ -16,6 +16,7 @@ use Rattle.record_show.specs.declared.Shown.{Shown}
 use Rattle.check_set.specs.declared.Verdict.{Verdict}
 use Rattle.check_set.specs.declared.Check.{Check}
 use Rattle.check_set.specs.Check.{Checked}
+use Rattle.assembly.specs.Calls.{Called}
 
 -- a refusal, by number and place
 abbrev pub refusalWord : Refusal → ℕ
@@ -25,6 +26,17 @@ refusalWord x = 9223372036854775808 + refusalNumber x * 4294967296 + x .place
 abbrev pub readingWord : Reading → ℕ
 readingWord (Reading.Count n) = n
 readingWord (Reading.Refused x) = refusalWord x
+
+-- begin, add, drop and close: the rules then held. The word r and the state, as it is at the end, are those of the call
+pub record KeepsWord (o : Called) (r : ℕ) (st : List ℕ) : Type 0 where
+  pub answer : r ≡ readingWord (o .answer)
+  pub state : st ≡ o .state
+
+-- and so is the lent buffer
+pub record CallsWord (o : Called) (r : ℕ) (st out : List ℕ) : Type 0 where
+  pub answer : r ≡ readingWord (o .answer)
+  pub state : st ≡ o .state
+  pub buffer : out ≡ o .buffer
 
 -- translate, and each operation that writes a result: the bytes written
 abbrev pub writtenWord : Written → ℕ

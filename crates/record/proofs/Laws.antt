@@ -12,6 +12,7 @@ pub mod Program
 pub mod Places
 pub mod Sound
 pub mod Complete
+pub mod Only
 pub mod Reading
 pub mod Meant
 pub mod Bounds

@@ -1,6 +1,6 @@
 -- What the reader's functions answer, from what the definitions of `Reading` give: a function keeps a rule's length
 -- where the definition gives the rule.
--- In order: a run of literals; the kinds of head literals; one record, and what is left behind it; what the part of a file from a place on
+-- In order: a run of literals; the kinds of head literals; one record, and what is left behind it; a rule's record alone; what the part of a file from a place on
 -- comes to; how many rules a file holds, and whether it holds sheet records.
 -- Assumes nothing.
 use Prim.Native.Nat.{ℕ, zero, suc, _+_, _-_}
@@ -17,6 +17,9 @@ use Rattle.record.specs.declared.Held.{Held}
 use Rattle.record.specs.declared.Found.{Found}
 use Rattle.record.specs.declared.Holding.{Holding}
 use Rattle.record.specs.declared.Reading.{Reading}
+use Rattle.record.specs.declared.Written.{Written}
+use Rattle.record.specs.declared.Reason.the-variants.{MarkWrong}
+use Rattle.record.specs.Refusal.{refusal}
 use Rattle.record.specs.Result.{Result, accepted, refused}
 use Rattle.record.specs.Reading.{Entry, item, end, holding, itemsFrom}
 
@@ -45,6 +48,19 @@ foundOf h (Step.Override size) = Found.Next size (record { rules = h .rules; ove
 foundOf h (Step.Opposition size) = Found.Next size (record { rules = h .rules; overrides = h .overrides; oppositions = h .oppositions + 1 })
 foundOf h Step.End = Found.End
 foundOf h (Step.Refused x) = Found.Refused x
+
+-- how long a rule's record is, or a refusal
+unfoldable pub sizeOf : Result ℕ → Written
+sizeOf (accepted n) = Written.Length n
+sizeOf (refused x) = Written.Refused x
+
+-- the same, of what reading a record came to
+unfoldable pub stepSize : Step → Written
+stepSize (Step.Rule size) = Written.Length size
+stepSize (Step.Override size) = Written.Length size
+stepSize (Step.Opposition size) = Written.Length size
+stepSize Step.End = Written.Refused (refusal MarkWrong 0)
+stepSize (Step.Refused x) = Written.Refused x
 
 -- how many items are held
 abbrev pub total : Held → ℕ

@@ -1,5 +1,5 @@
 -- Reading a file in a form (01, "Read"; 02, Ask 2): the tests in the documents' order, with their places.
--- In order: a run of literals; a rule's record, test by test; sheet records; the end record; one record; a file's items; the
+-- In order: a run of literals; a rule's record, test by test; sheet records; the end record; one record, and a rule's alone; a file's items; the
 -- program that they mean; read's answers.
 -- A record is read in its own part of the slice, told what is held, and its places are counted from the part's start. Reading
 -- goes on with the part behind the record just read.
@@ -161,6 +161,29 @@ markedRecord F NoMark h t = refused (refusal MarkWrong 0)
 -- one record, where h is held: 2 if fewer than two bytes are left; 3 for a mark that is not the form's
 unfoldable pub recordAt : Limits → Held → List ℕ → Result Entry
 recordAt F h t = refuseIf (ltb (length t) 2) (refusal MarkCut 0) (markedRecord F (markAt F t) h t)
+
+-- the mark is a rule's
+unfoldable pub isRule : Mark → Bool
+isRule (RuleMark d) = true
+isRule OverrideMark = false
+isRule OppositionMark = false
+isRule EndMark = false
+isRule NoMark = false
+
+-- so many rules are held, and no sheet record
+abbrev pub rulesHeld : ℕ → Held
+rulesHeld n = record { rules = n; overrides = 0; oppositions = 0 }
+
+-- an item's bytes; the end is no item
+unfoldable pub entrySize : Entry → Result ℕ
+entrySize (item i size) = accepted size
+entrySize end = refused (refusal MarkWrong 0)
+
+-- a rule's record and no other, where n rules are held: its length. It is refused as reading refuses it, and 3 is every mark but a rule's
+unfoldable pub ruleOnly : Limits → ℕ → List ℕ → Result ℕ
+ruleOnly F n t =
+    refuseIf (ltb (length t) 2) (refusal MarkCut 0)
+    (refuseIf (not (isRule (markAt F t))) (refusal MarkWrong 0) (andThen (recordAt F (rulesHeld n) t) entrySize))
 
 -- nothing is held; one item more is held
 abbrev pub nothing : Held

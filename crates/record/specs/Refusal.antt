@@ -4,7 +4,7 @@ use Prim.Native.Nat.{ℕ, _+_}
 use mathlib.Core.List.{List, _∷_}
 use Rattle.buffer.specs.Bytes.{fourBytes}
 use Rattle.record.specs.declared.Reason.{Reason}
-use Rattle.record.specs.declared.Reason.the-variants.{TooLong, MarkCut, MarkWrong, HeaderCut, TooManyRules, TagWrong, TooManyLiterals, LiteralsCut, LiteralWrong, HeadWrong, EndWrong, OutputShort, SetWrong, SetTooLarge, MemberWrong, NoSuchRule, TooManySheets, SheetCut, SheetSame}
+use Rattle.record.specs.declared.Reason.the-variants.{TooLong, MarkCut, MarkWrong, HeaderCut, TooManyRules, TagWrong, TooManyLiterals, LiteralsCut, LiteralWrong, HeadWrong, EndWrong, OutputShort, SetWrong, SetTooLarge, MemberWrong, NoSuchRule, TooManySheets, SheetCut, SheetSame, OutOfTurn}
 use Rattle.record.specs.declared.Refusal.{Refusal}
 use Rattle.record.specs.Header.{refusalLetter, colon}
 
@@ -29,6 +29,7 @@ reasonNumber SetTooLarge = 12
 reasonNumber MemberWrong = 11
 reasonNumber OutputShort = 9
 reasonNumber NoSuchRule = 13
+reasonNumber OutOfTurn = 15
 
 -- a refusal's number
 abbrev pub refusalNumber : Refusal → ℕ

@@ -40,6 +40,8 @@ pub enum Reason {
     SheetCut,
     // A sheet record names one tag, or one option, twice.
     SheetSame,
+    // A call of an assembly that its state does not take: none is open, or no rule is held to be dropped.
+    OutOfTurn,
 }
 
 pub struct Refusal {

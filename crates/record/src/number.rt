@@ -27,5 +27,6 @@ pub fn reason_number(reason: Reason) -> u8
         Reason::TooManySheets => 4,
         Reason::SheetCut => 2,
         Reason::SheetSame => 14,
+        Reason::OutOfTurn => 15,
     }
 }

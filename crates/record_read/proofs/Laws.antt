@@ -1,3 +1,4 @@
 pub mod Front
 pub mod Run
 pub mod Sheet
+pub mod Judged

@@ -2,11 +2,11 @@
 -- record's options.
 -- In order: how a record starts; a step that is told; literals that are left to be read; a record that is neither a rule's nor the end;
 -- either of the three; what ends a run of rules, and the run; five bytes that spell an option; two options by their bytes, and what their
--- record comes to.
+-- record comes to; what a rule's record comes to by its literals.
 -- Assumes nothing.
 use Prim.Native.Nat.{ℕ, _*_, _≤_}
 use mathlib.Core.Path.{_≡_}
-use mathlib.Core.Bool.{Bool, true, false, _&&_}
+use mathlib.Core.Bool.{Bool, true, false, cond, _&&_}
 use mathlib.Core.List.{List}
 use lib.Dec.{eqb}
 use lib.ListN.{length, getD, drop}
@@ -14,14 +14,15 @@ use Rattle.buffer.specs.Bytes.{numberAt}
 use Rattle.literal.specs.declared.Limits.{Limits}
 use Rattle.literal.specs.declared.Literal.the-variants.{Signed, Defeated, Derived, RuleDefeated}
 use Rattle.literal.specs.Literal.{Decoded, Valid, Wrong}
+use Rattle.record.specs.declared.Run.{Run}
 use Rattle.record.specs.declared.Step.{Step}
 use Rattle.record.specs.declared.Held.{Held}
 use Rattle.record.specs.Header.{headCount, positiveCount, nafCount}
-use Rattle.record.specs.declared.Reason.the-variants.{LiteralWrong, SheetSame}
+use Rattle.record.specs.declared.Reason.the-variants.{LiteralWrong, HeadWrong, SheetSame}
 use Rattle.record.specs.Refusal.{refusal}
 use Rattle.record.specs.Result.{Result}
 use Rattle.record.specs.Reading.{Mark, RuleMark, OverrideMark, OppositionMark, EndMark, NoMark, Entry, bodyAt, markAt, recordAt}
-use Rattle.record.specs.Code.{stepOf, total, left}
+use Rattle.record.specs.Code.{signedKinds, stepOf, total, left}
 use Rattle.record_read.specs.declared.Opening.{Opening}
 use Rattle.record_read.specs.declared.Front.{Front}
 use Rattle.record_read.specs.declared.Stop.{Stop}
@@ -93,3 +94,9 @@ pairStep false other same = Step.Refused (refusal LiteralWrong 2)
 pairStep true false same = Step.Refused (refusal LiteralWrong 7)
 pairStep true true true = Step.Refused (refusal SheetSame 0)
 pairStep true true false = Step.Opposition 12
+
+-- what a rule's record of so many bytes comes to, by its literals: a defeasible head is not empty, and its kinds are signed
+unfoldable pub judged : Run → Bool → List ℕ → ℕ → ℕ → Step
+judged (Run.Refused x) d t h size = Step.Refused x
+judged Run.Right false t h size = Step.Rule size
+judged Run.Right true t h size = cond (eqb h 0) (Step.Refused (refusal HeadWrong 0)) (cond (signedKinds t 7 h) (Step.Rule size) (Step.Refused (refusal HeadWrong 0)))

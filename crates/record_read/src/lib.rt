@@ -36,6 +36,7 @@ pub struct Rules {
     pub stop: Stop,
 }
 
+pub mod alone;
 pub mod read;
 mod sheet;
 pub mod step;

@@ -22,7 +22,7 @@ ghost use Rattle.semantics.specs.Form.{keepsCounts};
 ghost use Rattle.record.specs.Refusal.{refusal};
 ghost use Rattle.record.specs.Reading.{literalsAt, markAt, tagRight, bodyAt, ruleAt, endAt, recordAt};
 ghost use Rattle.record.specs.Code.{runOf, signedKinds, stepOf, foundOf};
-ghost use Rattle.record_read.specs.Code.{opening, FrontAt};
+ghost use Rattle.record_read.specs.Code.{opening, judged, FrontAt};
 
 // A refusal at the record's first byte.
 pub fn refuse(reason: Reason) -> Step
@@ -32,7 +32,7 @@ pub fn refuse(reason: Reason) -> Step
 }
 
 // How the record starts: the letters of sheet records are not asked for here, so that few are.
-fn open_record(lim: Limits, t: &[u8]) -> Opening
+pub fn open_record(lim: Limits, t: &[u8]) -> Opening
     requires { ⌜ 2 ≤ length (now t) ⌝ }
     ensures { λ r. ⌜ r ≡ opening (markAt lim (now (t .entry))) ⌝ }
 {
@@ -115,6 +115,25 @@ fn is_head_signed(t: &[u8], heads: usize) -> bool
     true
 }
 
+// What a record of so many bytes comes to, by its literals: a defeasible head is not empty, and holds no mark.
+pub fn judge_literals(run: Run, defeasible: bool, t: &[u8], heads: u8, size: usize) -> Step
+    requires { ⌜ 7 + 5 * heads ≤ length (now t) ⌝ }
+    ensures { λ r. ⌜ r ≡ judged run defeasible (now (t .entry)) heads size ⌝ }
+{
+    if let Run::Refused(x) = run {
+        return Step::Refused(x);
+    }
+    if defeasible {
+        if heads == 0 {
+            return refuse(Reason::HeadWrong);
+        }
+        if !is_head_signed(t, heads as usize) {
+            return refuse(Reason::HeadWrong);
+        }
+    }
+    Step::Rule(size)
+}
+
 // A rule's record whose header is right: its literals, then what a defeasible head may hold.
 pub fn read_body(
     lim: Limits,
@@ -132,18 +151,7 @@ pub fn read_body(
         return refuse(Reason::LiteralsCut);
     }
     let run = read_literals(lim, t, count);
-    if let Run::Refused(x) = run {
-        return Step::Refused(x);
-    }
-    if defeasible {
-        if heads == 0 {
-            return refuse(Reason::HeadWrong);
-        }
-        if !is_head_signed(t, heads as usize) {
-            return refuse(Reason::HeadWrong);
-        }
-    }
-    Step::Rule(size)
+    judge_literals(run, defeasible, t, heads, size)
 }
 
 // A rule's header, where `held` rules came before: its tests in document 01's order.

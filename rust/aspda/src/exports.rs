@@ -1,7 +1,7 @@
 //! The static library's functions on slices, each with its word. All `unsafe` code of the crate stands here.
 //!
-//! Every pointer is a slice's, so it is not null and goes with its slice's length. The slice that is written to is
-//! borrowed alone, so it overlaps no other; the others are only read.
+//! Every pointer is a slice's, so it is not null and goes with its slice's length. A slice that is written to is borrowed
+//! alone, so it overlaps no other; the others are only read.
 //!
 //! tests/runner and bench have this file as a module of theirs: they call the library without the rest of the crate,
 //! and the functions are declared for Rust here alone.
@@ -25,6 +25,11 @@ extern "C" {
     fn aspda_check_plain(p: *const u8, n: usize, s: *const u8, k: usize, out: *mut u8, m: usize) -> u64;
     fn aspda_show_source(p: *const u8, n: usize, rule: u32) -> u64;
     fn aspda_show_plain(p: *const u8, n: usize, rule: u32) -> u64;
+    fn aspda_begin(state: *mut u8, k: usize, out: *const u8, m: usize) -> u64;
+    fn aspda_add(state: *mut u8, k: usize, record: *const u8, r: usize, out: *mut u8, m: usize) -> u64;
+    fn aspda_drop(state: *mut u8, k: usize) -> u64;
+    fn aspda_close(state: *mut u8, k: usize, out: *mut u8, m: usize) -> u64;
+    fn aspda_assembled(state: *const u8, k: usize) -> u64;
 }
 
 fn on_program(export: Program, program: &[u8]) -> u64 {
@@ -89,4 +94,24 @@ pub fn show_source(program: &[u8], rule: u32) -> u64 {
 
 pub fn show_plain(program: &[u8], rule: u32) -> u64 {
     on_rule(aspda_show_plain, program, rule)
+}
+
+pub fn begin(state: &mut [u8], out: &[u8]) -> u64 {
+    unsafe { aspda_begin(state.as_mut_ptr(), state.len(), out.as_ptr(), out.len()) }
+}
+
+pub fn add(state: &mut [u8], record: &[u8], out: &mut [u8]) -> u64 {
+    unsafe { aspda_add(state.as_mut_ptr(), state.len(), record.as_ptr(), record.len(), out.as_mut_ptr(), out.len()) }
+}
+
+pub fn drop(state: &mut [u8]) -> u64 {
+    unsafe { aspda_drop(state.as_mut_ptr(), state.len()) }
+}
+
+pub fn close(state: &mut [u8], out: &mut [u8]) -> u64 {
+    unsafe { aspda_close(state.as_mut_ptr(), state.len(), out.as_mut_ptr(), out.len()) }
+}
+
+pub fn assembled(state: &[u8]) -> u64 {
+    unsafe { aspda_assembled(state.as_ptr(), state.len()) }
 }

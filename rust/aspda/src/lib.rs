@@ -3,8 +3,9 @@
 //! Programs and sets are bytes, as document 01 lays them out: a program is its rules' records and an end record, a set
 //! is one `A:` record. There are two forms: a *source* has defeasible rules, defeat marks and preference sheets, a
 //! *plain* program has strict rules alone and every kind of mark. The functions are those of the static library, in
-//! which each is proved; they keep no state and allocate nothing. What writes a result writes it to the start of the
-//! slice that it is lent, hands back the written part, and leaves the bytes behind it as they were.
+//! which each is proved; they keep no state (that of an [`Assembly`] is the value itself) and allocate nothing. What
+//! writes a result writes it to the start of the slice that it is lent, hands back the written part, and leaves the
+//! bytes behind it as they were.
 //!
 //! | Operation | Functions | A buffer that always suffices |
 //! |---|---|---|
@@ -16,6 +17,7 @@
 //! | extension of a source's set | [`extend`] | [`EXTENSION_BOUND`] |
 //! | restriction of a plain set | [`restrict`] | [`restriction_bound`] |
 //! | is it an answer set? | [`check_source`], [`check_plain`] | [`witness_bound`] |
+//! | a source, built rule by rule | [`Assembly`] | [`ASSEMBLY_BOUND`] |
 //!
 //! What is not as documents 01 and 02 ask is refused: a [`Refusal`] has the reason's number, the [`Slice`] of the call
 //! that it speaks of, and the place there. A call that refuses has written nothing.
@@ -91,6 +93,7 @@
 #![deny(unsafe_code)]
 #![warn(missing_docs)]
 
+mod assembly;
 #[allow(unsafe_code)]
 mod exports;
 mod refusal;
@@ -98,6 +101,7 @@ mod verdict;
 
 use refusal::Operation;
 
+pub use assembly::{Assembly, ASSEMBLY_BOUND, STATE};
 pub use refusal::{Part, Refusal, Slice};
 pub use verdict::Verdict;
 

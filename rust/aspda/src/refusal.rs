@@ -10,7 +10,11 @@ pub enum Slice {
     Program,
     /// The set.
     Set,
-    /// The slice that the result would be written to.
+    /// The record that is added to an [`Assembly`](crate::Assembly).
+    Record,
+    /// The state of an [`Assembly`](crate::Assembly).
+    State,
+    /// The slice that the result would be written to; of an [`Assembly`](crate::Assembly) its buffer.
     Output,
 }
 
@@ -36,6 +40,10 @@ pub(crate) enum Operation {
     Extend,
     Restrict,
     Check,
+    Begin,
+    Add,
+    Drop,
+    Close,
 }
 
 impl Operation {
@@ -44,12 +52,15 @@ impl Operation {
         Refusal { number, slice: self.slice(number), place }
     }
 
-    /// The slice that a number speaks of: document 01, "Operations and what each refuses"; document 02, asks 1 and 2.
+    /// The slice that a number speaks of: document 01, "Operations and what each refuses"; document 02, asks 1, 2, 4.
     fn slice(self, number: u8) -> Slice {
         use Operation::*;
         match (self, number) {
-            (Translate | Aspif | Quotient | Extend | Restrict | Check, 9) => Slice::Output,
+            (Translate | Aspif | Quotient | Extend | Restrict | Check | Begin | Add | Close, 9) => Slice::Output,
             (Quotient | Extend | Check, 10..=12) | (Restrict, _) => Slice::Set,
+            (Add, 2..=7) => Slice::Record,
+            // 15, for it is the state that is not open or holds no rule.
+            (Begin | Add | Drop | Close, _) => Slice::State,
             // 1 to 8 and 14; and 13, for it is the program that has no such rule.
             (Read | Show | Translate | Aspif | Quotient | Extend | Check, _) => Slice::Program,
         }
@@ -61,14 +72,17 @@ impl Operation {
 ///
 /// | Number | Slice | Part | Operations |
 /// |---|---|---|---|
-/// | 1 | program | whole | all but restrict |
-/// | 2, 3, 4, 6, 8 | program | record | all but restrict |
-/// | 5 | program | literal | all but restrict |
+/// | 1 | program | whole | all on programs |
+/// | 2, 3, 4, 6, 8 | program | record | all on programs |
+/// | 5 | program | literal | all on programs |
 /// | 7, 14 | program | record | all on sources |
-/// | 9 | output | whole | translate, aspif, quotient, extend, restrict, check |
+/// | 9 | output | whole | translate, aspif, quotient, extend, restrict, check; begin and add of an assembly |
 /// | 10, 12 | set | whole | quotient, extend, restrict, check |
 /// | 11 | set | literal | quotient, extend, restrict, check |
 /// | 13 | program | whole | show |
+/// | 2, 3, 4, 6, 7 | record | record | add of an assembly |
+/// | 5 | record | literal | add of an assembly |
+/// | 15 | state | whole | drop_last of an assembly |
 ///
 /// A call that refuses has written nothing.
 ///
@@ -88,7 +102,7 @@ impl Operation {
 /// ```
 #[derive(Clone, Copy, Debug, PartialEq, Eq, Hash)]
 pub struct Refusal {
-    /// The number of the reason in documents 01 and 02, 1 to 14.
+    /// The number of the reason in documents 01 and 02, 1 to 15.
     pub number: u8,
     /// The slice of the call that the refusal speaks of.
     pub slice: Slice,
@@ -119,6 +133,7 @@ impl Refusal {
             12 => "the set has too many literals",
             13 => "the program has no rule of this number",
             14 => "a tag overrides itself, or an option opposes itself",
+            15 => "the call is out of turn: nothing is open, or there is no rule to drop",
             _ => "a reason that this crate does not know",
         }
     }

@@ -1,10 +1,10 @@
-//! Each of document 01's refusal numbers, by way of the crate, for each operation that can give it: number, place, the
+//! Each of the documents' refusal numbers, by way of the crate, for each operation that can give it: number, place, the
 //! slice and the part that it speaks of, and a reason of its own.
 
 #[path = "../../limits.rs"]
 mod limits;
 
-use aspda::{Part, Refusal, Slice};
+use aspda::{Assembly, Part, Refusal, Slice};
 use limits::{APPENDED_RULE, PLAIN, SOURCE};
 use std::collections::BTreeSet;
 
@@ -239,9 +239,9 @@ fn a_refusal_leaves_the_buffer() {
 #[test]
 fn each_number_has_a_reason_of_its_own() {
     let reason = |number| Refusal { number, slice: Slice::Program, place: 0 }.reason();
-    let reasons: BTreeSet<_> = (1..=14).map(reason).collect();
-    assert_eq!(reasons.len(), 14);
-    assert!(!reasons.contains(reason(15)));
+    let reasons: BTreeSet<_> = (1..=15).map(reason).collect();
+    assert_eq!(reasons.len(), 15);
+    assert!(!reasons.contains(reason(16)));
 }
 
 const OVERRIDE: &[u8] = b"O:\0\x01\0\x02"; // tag 1 overrides tag 2
@@ -308,4 +308,141 @@ fn bounds_suffice_with_sheets() {
     let translation = aspda::translate(&source, &mut out).unwrap();
     // Each of the rules has twelve options.
     assert_eq!(translation.len(), 4 + (SOURCE.sheets + 1) * (66 * 12 + 24) + APPENDED_RULE * appended);
+}
+
+const NEVER: &[u8] = b"S:\0\0\0\0\0"; // neither head nor body
+
+/// A rule's record that is refused by this number behind fewer than 256 rules, and what is wrong in it.
+fn faulty_records() -> Vec<(u8, (Part, u32), Vec<u8>)> {
+    let whole_record = (Part::Record, 0);
+    let mut records: Vec<(u8, (Part, u32), Vec<u8>)> = vec![
+        (3, whole_record, b"E:\0\x01".to_vec()),
+        (3, whole_record, OVERRIDE.to_vec()),
+        (3, whole_record, OPPOSITION.to_vec()),
+        (3, whole_record, b"Y:".to_vec()),
+        (6, whole_record, b"S:\0\x01\x11\0\0".to_vec()),
+        (6, whole_record, b"D:\0\0\x11\0\0".to_vec()),
+        (6, whole_record, [b"D:\0", &[SOURCE.tags as u8 + 1, 1, 0, 0][..]].concat()),
+        (4, whole_record, b"S:\0\0\x11\0\0".to_vec()),
+        (4, whole_record, b"S:\0\0\0\x11\0".to_vec()),
+        (4, whole_record, b"D:\0\x01\0\0\x11".to_vec()),
+        (2, whole_record, b"S:\0\0\x01\0\x01\0\0\0\x01\xF5\0\0\0\0".to_vec()),
+        (5, (Part::Literal, 12), b"S:\0\0\x01\0\x01\0\0\0\0\x01\0\0\0\x01\xF5".to_vec()),
+        (5, (Part::Literal, 7), b"S:\0\0\x01\0\0\x04\0\x01\0\x01".to_vec()),
+        (7, whole_record, b"D:\0\x01\0\0\0".to_vec()),
+        (7, whole_record, b"D:\0\x01\x01\0\0\x02\0\x01\0\x01".to_vec()),
+    ];
+    records.extend((0..NEVER.len()).map(|length| (2, whole_record, NEVER[..length].to_vec())));
+    records
+}
+
+/// What assembling must refuse: with which number, of which slice and part of it, and where.
+fn is_refused(answer: Result<usize, Refusal>, number: u8, slice: Slice, (part, place): (Part, u32)) {
+    let refusal = answer.expect_err("a refusal");
+    assert_eq!(refusal, Refusal { number, slice, place });
+    assert_eq!(refusal.part(), part, "{number}");
+}
+
+#[test]
+fn beginning_is_refused_for_its_buffer_alone() {
+    for room in 0..4 {
+        let mut buffer = vec![0xAA; room];
+        is_refused(Assembly::begin(&mut buffer).map(|held| held.rules()), 9, Slice::Output, (Part::Whole, 0));
+    }
+    let mut buffer = [0xAA; 4];
+    assert_eq!(Assembly::begin(&mut buffer).unwrap().close(), b"E:\0\0");
+}
+
+#[test]
+fn adding_is_refused_for_the_record_and_then_for_the_buffer() {
+    let mut numbers = BTreeSet::new();
+    for (number, wrong, record) in faulty_records() {
+        numbers.insert(number);
+        // The second buffer has no room for another record: the record's refusal comes first all the same.
+        for room in [100, NEVER.len() + 4] {
+            let mut buffer = vec![0xAA; room];
+            let mut assembly = Assembly::begin(&mut buffer).unwrap();
+            assert_eq!(assembly.add(NEVER), Ok(1));
+            is_refused(assembly.add(&record), number, Slice::Record, wrong);
+            assert_eq!((assembly.rules(), assembly.length()), (1, NEVER.len() + 4));
+            assert_eq!(assembly.close(), [NEVER, b"E:\0\x01"].concat());
+            assert!(buffer[NEVER.len() + 4..].iter().all(|byte| *byte == 0xAA), "refusal {number} wrote");
+        }
+    }
+    assert_eq!(numbers, BTreeSet::from([2, 3, 4, 5, 6, 7]));
+
+    let fact = &ONE[..12];
+    for room in 4..fact.len() + 4 {
+        let mut buffer = vec![0xAA; room];
+        let mut assembly = Assembly::begin(&mut buffer).unwrap();
+        is_refused(assembly.add(fact), 9, Slice::Output, (Part::Whole, 0));
+        assert_eq!(assembly.close(), b"E:\0\0");
+    }
+    let mut buffer = vec![0xAA; fact.len() + 4];
+    let mut assembly = Assembly::begin(&mut buffer).unwrap();
+    assert_eq!(assembly.add(&[fact, b"behind it"].concat()), Ok(1));
+    assert_eq!(assembly.close(), ONE);
+}
+
+#[test]
+fn one_rule_more_than_a_source_has_is_refused() {
+    let mut buffer = vec![0; aspda::ASSEMBLY_BOUND];
+    let mut assembly = Assembly::begin(&mut buffer).unwrap();
+    // A rule with all the literals that a rule may have: the buffer that always suffices is exactly full.
+    let parts = [SOURCE.heads, SOURCE.positives, SOURCE.nafs];
+    let mut longest = [&b"S:\0\0"[..], &parts.map(|part| part as u8)].concat();
+    longest.extend((0..parts.iter().sum()).flat_map(|_| [0, 0, 0, 0, 1]));
+    for held in 1..=SOURCE.rules {
+        assert_eq!(assembly.add(&longest), Ok(held));
+    }
+    assert_eq!(assembly.length(), aspda::ASSEMBLY_BOUND);
+    // Before a tag out of range, behind a cut header.
+    for record in [NEVER, b"S:\0\x01\0\0\0"] {
+        is_refused(assembly.add(record), 4, Slice::Record, (Part::Record, 0));
+    }
+    is_refused(assembly.add(&NEVER[..6]), 2, Slice::Record, (Part::Record, 0));
+    assert_eq!(assembly.drop_last(), Ok(SOURCE.rules - 1));
+    assert_eq!(assembly.add(&longest), Ok(SOURCE.rules));
+    assert_eq!(aspda::read_source(assembly.close()), Ok(SOURCE.rules as u32));
+}
+
+#[test]
+fn dropping_is_refused_where_no_rule_is_held() {
+    let out_of_turn = |answer| is_refused(answer, 15, Slice::State, (Part::Whole, 0));
+    let mut buffer = [0; 100];
+    let mut assembly = Assembly::begin(&mut buffer).unwrap();
+    out_of_turn(assembly.drop_last());
+    for held in 1..=3 {
+        assert_eq!(assembly.add(NEVER), Ok(held));
+    }
+    for held in [2, 1, 0] {
+        assert_eq!(assembly.drop_last(), Ok(held));
+    }
+    out_of_turn(assembly.drop_last());
+    assert_eq!(assembly.add(NEVER), Ok(1));
+    assembly.restart();
+    out_of_turn(assembly.drop_last());
+    assert_eq!(assembly.close(), b"E:\0\0");
+}
+
+/// Reading and showing give what was added and not dropped, in order.
+#[test]
+fn what_is_closed_is_what_was_added_and_not_dropped() {
+    let record = |tag: u8| [b"D:\0", &[tag, 1, 0, 0][..], &[0, 0, 0, 0, tag]].concat();
+    let mut buffer = vec![0xAA; aspda::ASSEMBLY_BOUND];
+    let mut assembly = Assembly::begin(&mut buffer).unwrap();
+    let mut rules = Vec::new();
+    for tag in 1..=SOURCE.tags as u8 {
+        rules.push(record(tag));
+        assert_eq!(assembly.add(&record(tag)), Ok(rules.len()));
+        if tag % 3 == 0 {
+            rules.pop();
+            assert_eq!(assembly.drop_last(), Ok(rules.len()));
+        }
+    }
+    let source = assembly.close();
+    assert_eq!(aspda::read_source(source), Ok(rules.len() as u32));
+    for (number, rule) in (1..).zip(&rules) {
+        assert_eq!(aspda::show_source(source, number), Ok(&rule[..]));
+    }
 }

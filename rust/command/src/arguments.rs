@@ -16,6 +16,7 @@ pub enum Operation {
     Convert,
     Aspif,
     Expand,
+    Assemble,
 }
 
 /// Why there is no result, in words, and the exit status that tells it.
@@ -35,6 +36,7 @@ struct Command {
     operation: Operation,
     /// Whether it takes `--plain`.
     plain: bool,
+    /// What it takes; a name that ends in `..` stands for one operand or more.
     operands: &'static [&'static str],
     output: Output,
     /// The exit status where there is no result.
@@ -53,7 +55,7 @@ enum Output {
     Required,
 }
 
-const COMMANDS: [Command; 10] = [
+const COMMANDS: [Command; 11] = [
     Command {
         name: "read",
         operation: Operation::Read,
@@ -172,6 +174,21 @@ const COMMANDS: [Command; 10] = [
                   means these rules too, but read and show count and show those alone that are written. With -o FILE they\n\
                   are a program of their own. The exit status is 0 if the rules were written, else 2.",
     },
+    Command {
+        name: "assemble",
+        operation: Operation::Assemble,
+        plain: false,
+        operands: &["RULES.."],
+        output: Output::Optional,
+        failure: REFUSED_OR_MISUSED,
+        about: "a source from files of rules, added one by one",
+        details: "Adds the rules of the files to a source, each by itself and in order, and writes the source's end. A file of\n\
+                  text has rules and names in the text form, and where it says `drop.`, the last rule that was added is\n\
+                  taken back (unless an atom is called drop: then it is that fact). Names hold in the files behind theirs\n\
+                  too. A file of bytes has rules' records one behind the other, without an end record. Overrides and\n\
+                  oppositions cannot be assembled. A refusal names the file and the line, or the record's number and its\n\
+                  first byte. The exit status is 0 if the source was written, else 2.",
+    },
 ];
 
 const FILES: &str = "\
@@ -179,7 +196,8 @@ A file whose name ends in .txt holds text, every other file holds bytes. A SET m
 as '{1, -2}'. With -o FILE the result goes to FILE, as text if its name ends in .txt, else as bytes;
 without -o it is listed on standard output. `-` in place of a file is standard input, behind -o
 standard output, and holds bytes. --plain: the program is a plain one, not a source.
-The exit status is 0 if the operation gave its result (check: yes), else 1, of aspif and expand else 2.
+The exit status is 0 if the operation gave its result (check: yes), else 1, of aspif, expand and assemble
+else 2.
 ";
 
 const TEXT: &str = "\
@@ -276,7 +294,7 @@ impl Command {
                 request.operands.push(argument);
             }
         }
-        if request.operands.len() != self.operands.len() {
+        if !self.takes(request.operands.len()) {
             let (wanted, found) = (self.operands.join(" and "), request.operands.len());
             return Err(self.wrong(&format!("{wanted} expected, {found} given")));
         }
@@ -284,6 +302,13 @@ impl Command {
             return Err(self.wrong("-o OUT is missing"));
         }
         Ok(request)
+    }
+
+    fn takes(&self, operands: usize) -> bool {
+        match self.operands.last() {
+            Some(last) if last.ends_with("..") => operands >= self.operands.len(),
+            _ => operands == self.operands.len(),
+        }
     }
 
     fn wrong(&self, what: &str) -> String {

@@ -1,6 +1,7 @@
 //! What each command does: loads its operands, asks the library, lists or writes the answer.
 
 use crate::arguments::{Operation, Request};
+use crate::assembly;
 use crate::expansion::Expansion;
 use crate::files::{self, Either, Program, Set};
 use crate::limits::{Limits, PLAIN, SOURCE};
@@ -31,6 +32,7 @@ pub fn run(request: &Request) -> Answer {
         Operation::Convert => convert(request),
         Operation::Aspif => aspif(request),
         Operation::Expand => expand(request),
+        Operation::Assemble => assemble(request),
     }
 }
 
@@ -97,8 +99,8 @@ fn program_and_set(request: &Request) -> Result<(Program, Set), String> {
 fn refused(refusal: Refusal, program: &Program, set: &Set) -> String {
     match refusal.slice {
         Slice::Set => set.refused(refusal),
-        // A result that had too little room is the program's.
-        Slice::Program | Slice::Output => program.refused(refusal),
+        // A result that had too little room is the program's; no call with a set speaks of a record or a state.
+        Slice::Program | Slice::Output | Slice::Record | Slice::State => program.refused(refusal),
     }
 }
 
@@ -258,6 +260,12 @@ fn aspif(request: &Request) -> Answer {
     }
 }
 
+fn assemble(request: &Request) -> Answer {
+    let mut buffer = vec![0; aspda::ASSEMBLY_BOUND];
+    let (source, names) = assembly::assemble(&request.operands, &mut buffer)?;
+    deliver_program(request, source, &names)
+}
+
 /// A refusal of a program in words, with the limit that is passed.
 fn refused_by_limit(refusal: Refusal, program: &Program, form: Form) -> String {
     match passed_limit(refusal, form) {
@@ -266,10 +274,16 @@ fn refused_by_limit(refusal: Refusal, program: &Program, form: Form) -> String {
     }
 }
 
+/// How many literals the parts of a rule may have.
+pub fn most_literals(limits: &Limits) -> String {
+    let Limits { heads, positives, nafs, .. } = limits;
+    format!("at most {heads} head, {positives} positive and {nafs} naf literals")
+}
+
 /// What a program of the form may have at most, where that is what the refusal is about.
 fn passed_limit(refusal: Refusal, form: Form) -> Option<String> {
-    let Limits { length, rules, heads, positives, nafs, atoms, tags, numbers, sheets, .. } = form.limits();
-    let counts = format!("each with at most {heads} head, {positives} positive and {nafs} naf literals");
+    let Limits { length, rules, atoms, tags, numbers, sheets, .. } = form.limits();
+    let counts = format!("each with {}", most_literals(form.limits()));
     Some(match (refusal.number, form) {
         (1, Form::Source) => format!("a source has at most {length} bytes"),
         (1, Form::Plain) => format!("a plain program has at most {length} bytes"),

@@ -41,7 +41,7 @@ pub enum Either {
 }
 
 /// What an operand's file or the operand itself holds.
-enum Content {
+pub enum Content {
     Text(String),
     Bytes(Vec<u8>),
 }
@@ -92,6 +92,11 @@ fn load_or_take(operand: &OsStr) -> Result<Content, String> {
 
 pub fn load_program(path: &OsStr) -> Result<Program, String> {
     Program::new(name(path), load(path)?)
+}
+
+/// What messages call a file of rules that are assembled, and what it holds.
+pub fn load_rules(path: &OsStr) -> Result<(String, Content), String> {
+    Ok((name(path), load(path)?))
 }
 
 /// A set; names are those of the program that goes with it.
@@ -161,15 +166,8 @@ impl Written {
             return None;
         }
         let index = self.records.iter().position(|record| record.contains(&(refusal.place as usize)))?;
-        let what = match self.items[index] {
-            Item::Rule(_) => {
-                let rules = self.items[..=index].iter().filter(|item| item.is_rule()).count();
-                format!("rule {rules}")
-            }
-            Item::Override(..) => "override".to_owned(),
-            Item::Opposition(..) => "opposition".to_owned(),
-        };
-        Some(format!("{what}, line {}", self.lines[index]))
+        let rules = self.items[..=index].iter().filter(|item| item.is_rule()).count();
+        Some(format!("{}, line {}", self.items[index].title(rules), self.lines[index]))
     }
 }
 

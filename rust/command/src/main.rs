@@ -1,6 +1,7 @@
 //! The command `aspda`: programs and sets as text or bytes, and the library's operations on them.
 
 mod arguments;
+mod assembly;
 mod commands;
 mod expansion;
 mod files;

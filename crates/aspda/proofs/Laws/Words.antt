@@ -7,6 +7,7 @@ use lib.ListN.{length}
 use Rattle.buffer.specs.Bytes.{Bytes}
 use Rattle.literal.specs.declared.Limits.{Limits}
 use Rattle.literal.specs.declared.Literal.{Literal}
+use Rattle.literal.specs.Limits.{source}
 use Rattle.semantics.specs.Rule.{Program}
 use Rattle.semantics.specs.Translation.{translation}
 use Rattle.record.specs.declared.Written.{Written}
@@ -30,6 +31,8 @@ use Rattle.aspif_text.specs.Text.{aspifText}
 use Rattle.aspif.specs.Aspif.{aspifBytes, exported}
 use Rattle.extend.specs.Extend.{extensionList, extensionBytes, extended}
 use Rattle.restrict.specs.Restrict.{restrictionList, restrictionBytes, restricted}
+use Rattle.assembly.specs.Calls.{Call, called}
+use Rattle.assembly.proofs.Laws.Answers.{answer-place}
 use Rattle.aspda_word.specs.Code.{ShortReading, ShortWritten, ShortShown}
 
 -- a place within a larger bound
@@ -90,3 +93,9 @@ module _ (F : Limits) (small : F .length < 2147483648) (s : List ℕ) where
       (and-then-placed (F .length) (parsedSet F (F .literals) s) (λ ls. accepted (encodedSet (restrictionList ls)))
       (placed-wider (4 + 5 * F .literals) (F .length) (parsedSet F (F .literals) s) h (parsed-set-placed F (F .literals) s)) (λ ls. tt))
       a e
+
+-- a call of an assembly: its places lie within the largest record
+pub called-short : (c : Call) (st out : List ℕ) (a : Reading) → a ≡ called source c st out .answer → ShortReading a
+unfolding source
+called-short c st out (Reading.Count n) e = tt
+called-short c st out (Reading.Refused x) e = omega (arith, answer-place source c st out x (sym e))

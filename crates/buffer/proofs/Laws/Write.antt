@@ -1,14 +1,15 @@
 -- Laws of `write`, which this file and `Before` alone unfold.
--- In order: nothing written; stores as a write; what stands up to the end of a write and behind it; a write behind a write; a list's length.
+-- In order: nothing written; stores as a write; what stands up to the end of a write and behind it; a write behind a write; a list's length; a write
+-- behind a front, and within it.
 -- Assumes nothing.
 use Prim.Native.Nat.{ℕ, _+_, _≤_, _<_}
 use native.Mathlib.Nat.{add-zero, add-assoc}
 use native.Mathlib.Numerals.{towards-suc}
 use native.Mathlib.Omega.{arith}
-use mathlib.Core.Path.{_≡_, sym, _∙_}
+use mathlib.Core.Path.{_≡_, sym, _∙_, ap, ap₂}
 use mathlib.Core.List.{List, [], _∷_, _++_, append-assoc}
 use lib.ListN.{length, take, drop, set, length-append, length-drop, take-append-drop}
-use lib.Seq.{sets, sets-eq, take-at, drop-at, drop-drop, length-take-le}
+use lib.Seq.{sets, sets-eq, take-at, drop-at, drop-drop, length-take-le, take-append-le, drop-append-le, take-append-add, drop-append-add}
 use Rattle.buffer.specs.Write.{write}
 
 module _ (d : List ℕ) (at : ℕ) where
@@ -65,3 +66,19 @@ unfolding write
 length-write d at bs h =
     simp (length-append, length-drop)
     (omega (arith, length-take-le at d (omega arith)))
+
+-- a write behind a front, and one within it
+module _ (xs ys : List ℕ) (at : ℕ) (bs : List ℕ) where
+  pub write-skip : write (xs ++ ys) (length xs + at) bs ≡ xs ++ write ys at bs
+  unfolding write
+  write-skip =
+      ap₂ (λ (a b : List ℕ). a ++ (bs ++ b)) (take-append-add xs ys at)
+      (ap (λ (k : ℕ). drop k (xs ++ ys)) (add-assoc (length xs) at (length bs)) ∙ drop-append-add xs ys (at + length bs))
+      ∙ append-assoc xs (take at ys) (bs ++ drop (at + length bs) ys)
+
+  pub write-within : at + length bs ≤ length xs → write (xs ++ ys) at bs ≡ write xs at bs ++ ys
+  unfolding write
+  write-within h =
+      ap₂ (λ (a b : List ℕ). a ++ (bs ++ b)) (take-append-le at xs ys (omega arith)) (drop-append-le (at + length bs) xs ys h)
+      ∙ ap (λ (a : List ℕ). take at xs ++ a) (sym (append-assoc bs (drop (at + length bs) xs) ys))
+      ∙ sym (append-assoc (take at xs) (bs ++ drop (at + length bs) xs) ys)

@@ -146,11 +146,11 @@ defeasible-made tag a h b c =
     ap (λ (o : Option (List SignedAtom)). elim o as (λ x. Result Rule) [ some os ↦ made os | none ↦ refused (refusal HeadWrong 0) ]) (options-of (a ∷ h))
 
 -- the marks at a record's start
-strict-mark : (F : Limits) (tag : ℕ) (h b c : List Literal) (rest : List ℕ) → markAt F (ruleRecord strictLetter tag h b c ++ rest) ≡ RuleMark false
+pub strict-mark : (F : Limits) (tag : ℕ) (h b c : List Literal) (rest : List ℕ) → markAt F (ruleRecord strictLetter tag h b c ++ rest) ≡ RuleMark false
 unfolding markAt marked pickMark ruleRecord
 strict-mark F tag h b c rest = refl
 
-defeasible-mark : (F : Limits) (tag : ℕ) (h b c : List Literal) (rest : List ℕ) → T (F .defeasible)
+pub defeasible-mark : (F : Limits) (tag : ℕ) (h b c : List Literal) (rest : List ℕ) → T (F .defeasible)
     → markAt F (ruleRecord defeasibleLetter tag h b c ++ rest) ≡ RuleMark true
 unfolding markAt marked pickMark ruleRecord
 defeasible-mark F tag h b c rest k = ap (λ (x : Bool). pickMark false x false false false) (is-true (F .defeasible) k)

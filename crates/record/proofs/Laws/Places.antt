@@ -43,7 +43,7 @@ unfolding andThen
 and-then-placed k (accepted a) f p g = g a
 and-then-placed k (refused x) f p g = p
 
-literals-placed : (F : Limits) (t : List ℕ) (k n at : ℕ) → at + 5 * n ≤ k → Placed k (literalsAt F t at n)
+pub literals-placed : (F : Limits) (t : List ℕ) (k n at : ℕ) → at + 5 * n ≤ k → Placed k (literalsAt F t at n)
 unfolding literalsAt
 literals-placed F t k zero at h = tt
 literals-placed F t k (suc n) at h = go (decoded F (drop at t)) (literals-placed F t k n (at + 5) (omega arith))
@@ -69,7 +69,7 @@ defeasible-placed k tag (l ∷ h) b c = go (optionsOf (l ∷ h))
     go (some os) = tt
     go none = omega arith
 
-rule-of-placed : (k : ℕ) (d : Bool) (tag h b : ℕ) (ls : List Literal) → Placed k (ruleOf d tag h b ls)
+pub rule-of-placed : (k : ℕ) (d : Bool) (tag h b : ℕ) (ls : List Literal) → Placed k (ruleOf d tag h b ls)
 unfolding ruleOf
 rule-of-placed k true tag h b ls = defeasible-placed k tag (take h ls) (take b (drop h ls)) (drop (h + b) ls)
 rule-of-placed k false tag h b ls = tt

@@ -16,7 +16,7 @@ use Rattle.record.specs.declared.Refusal.{Refusal}
 use Rattle.record.specs.declared.Step.{Step}
 use Rattle.record.specs.Header.{strictLetter, defeasibleLetter, endLetter, overrideLetter, oppositionLetter, headCount, positiveCount, nafCount}
 use Rattle.record.specs.Result.{Result, accepted}
-use Rattle.record.specs.Reading.{Mark, RuleMark, OverrideMark, OppositionMark, EndMark, NoMark, Entry, item, bodyAt, endAt, marked, pickMark, markAt}
+use Rattle.record.specs.Reading.{Mark, RuleMark, OverrideMark, OppositionMark, EndMark, NoMark, Entry, item, bodyAt, endAt, marked, pickMark, markAt, isRule}
 use Rattle.record.specs.Code.{stepOf}
 use Rattle.record.proofs.Laws.Marks.{letterMark}
 use Rattle.record.proofs.Laws.Result.{accepted-eq, refuse-if-accepted}
@@ -60,6 +60,23 @@ opens-end OverrideMark e = let z : _≡_ {A = ℕ} 0 1 = cc in absurd (omega (ar
 opens-end OppositionMark e = let z : _≡_ {A = ℕ} 0 1 = cc in absurd (omega (arith, z))
 opens-end EndMark e = refl
 opens-end NoMark e = let z : _≡_ {A = ℕ} 0 1 = cc in absurd (omega (arith, z))
+
+-- what starts as a rule's record has a rule's mark; what starts as the end, or as neither, has none
+pub rule-ruled : (m : Mark) (d : Bool) → opening m ≡ Opening.Rule d → isRule m ≡ true
+unfolding isRule
+rule-ruled m d e = ap isRule (opens-rule m d e)
+
+pub end-unruled : (m : Mark) → opening m ≡ Opening.End → isRule m ≡ false
+unfolding isRule
+end-unruled m e = ap isRule (opens-end m e)
+
+pub other-unruled : (m : Mark) → opening m ≡ Opening.Other → isRule m ≡ false
+unfolding opening isRule
+other-unruled (RuleMark d) e = let z : _≡_ {A = ℕ} 0 1 = cc in absurd (omega (arith, z))
+other-unruled OverrideMark e = refl
+other-unruled OppositionMark e = refl
+other-unruled EndMark e = refl
+other-unruled NoMark e = refl
 
 -- a letter that is not S, D or E starts no rule's record and not the end
 pub letter-opens : (F : Limits) (l : ℕ) → (l ≡ strictLetter → ⊥) → (l ≡ defeasibleLetter → ⊥) → (l ≡ endLetter → ⊥)

@@ -10,6 +10,9 @@ pub const OPPOSITION: [u8; 2] = *b"X:";
 pub const END: [u8; 2] = *b"E:";
 pub const SET: [u8; 2] = *b"A:";
 
+/// The length of an end record: its mark and the number of rules.
+pub const END_LENGTH: usize = 4;
+
 /// A program's bytes, and where each item's record lies in them.
 pub struct Encoded {
     pub bytes: Vec<u8>,
@@ -29,6 +32,13 @@ pub fn encode_program(items: &[Item]) -> Encoded {
     encoded.bytes.extend(END);
     encoded.bytes.extend((rules as u16).to_be_bytes());
     encoded
+}
+
+/// An item's record by itself.
+pub fn encode_record(item: &Item) -> Vec<u8> {
+    let mut bytes = Vec::new();
+    encode_item(item, &mut bytes);
+    bytes
 }
 
 fn encode_item(item: &Item, bytes: &mut Vec<u8>) {

@@ -13,10 +13,10 @@ mod parser;
 mod tests;
 
 pub use decoder::{decode_literal, decode_program, decode_rule, decode_set, is_set_record};
-pub use encoder::{encode_program, encode_set, Encoded};
+pub use encoder::{encode_program, encode_record, encode_set, Encoded, END_LENGTH};
 pub use listing::{list_item, list_literal, list_names, list_program, list_rule, list_set};
 pub use names::Names;
-pub use parser::{holds_set, parse_program, parse_set, Parsed};
+pub use parser::{holds_set, parse_program, parse_set, parse_steps, Parsed, Step, Steps};
 
 use std::fmt;
 
@@ -66,6 +66,15 @@ impl Item {
 
     pub fn is_rule(&self) -> bool {
         matches!(self, Item::Rule(_))
+    }
+
+    /// What messages call it; a rule by this number.
+    pub fn title(&self, rule: usize) -> String {
+        match self {
+            Item::Rule(_) => format!("rule {rule}"),
+            Item::Override(..) => "override".to_owned(),
+            Item::Opposition(..) => "opposition".to_owned(),
+        }
     }
 }
 

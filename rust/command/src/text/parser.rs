@@ -13,9 +13,11 @@
 //! signed      = [ "-" ] atom
 //! atom, tag   = NUMBER | NAME
 //! set         = "{" [ literal { "," literal } ] "}"
+//! steps       = { declaration | rule | override | opposition | "drop" "." }
 //! ```
 //!
-//! `overrides` and `oppose` stand where no name can: atoms and tags may be called so all the same.
+//! `overrides` and `oppose` stand where no name can: atoms and tags may be called so all the same. Where an atom is
+//! called `drop`, `drop.` is the fact, as in a program.
 
 use super::lexer::{tokens, Placed, Token};
 use super::names::Table;
@@ -35,8 +37,25 @@ pub struct Parsed {
     pub names: Names,
 }
 
+/// A step of an assembly.
+#[derive(Clone, Debug, PartialEq, Eq)]
+pub enum Step {
+    Add(Item),
+    DropLast,
+}
+
+/// The steps of an assembly as a text gives them.
+#[derive(Clone, Debug, Default, PartialEq, Eq)]
+pub struct Steps {
+    pub steps: Vec<Step>,
+    /// The line where each step begins.
+    pub lines: Vec<usize>,
+    /// Those of the texts before, and those that this text declares.
+    pub names: Names,
+}
+
 pub fn parse_program(text: &str) -> Result<Parsed, TextError> {
-    let mut parser = Parser { tokens: tokens(text)?, next: 0, names: Names::default() };
+    let mut parser = Parser::new(text, &Names::default())?;
     let mut parsed = Parsed::default();
     let mut rules = 0;
     while *parser.token() != Token::End {
@@ -54,9 +73,25 @@ pub fn parse_program(text: &str) -> Result<Parsed, TextError> {
     Ok(parsed)
 }
 
+/// The steps of an assembly; `names` are those of the texts before, which this one may declare again as they are.
+pub fn parse_steps(text: &str, names: &Names) -> Result<Steps, TextError> {
+    let mut parser = Parser::new(text, names)?;
+    let mut parsed = Steps::default();
+    while *parser.token() != Token::End {
+        let line = parser.place().line;
+        let step = if parser.takes_drop() { Some(Step::DropLast) } else { parser.statement()?.map(Step::Add) };
+        if let Some(step) = step {
+            parsed.steps.push(step);
+            parsed.lines.push(line);
+        }
+    }
+    parsed.names = parser.names;
+    Ok(parsed)
+}
+
 /// The literals of a set in the order of the text; `names` are those of the program that goes with it.
 pub fn parse_set(text: &str, names: &Names) -> Result<Vec<Literal>, TextError> {
-    let mut parser = Parser { tokens: tokens(text)?, next: 0, names: names.clone() };
+    let mut parser = Parser::new(text, names)?;
     parser.expect('{')?;
     let mut literals = Vec::new();
     if !parser.takes(&Token::Sign('}')) {
@@ -83,9 +118,15 @@ struct Parser<'t> {
     tokens: Vec<Placed<'t>>,
     next: usize,
     names: Names,
+    /// The names that were there before the text.
+    earlier: Names,
 }
 
 impl<'t> Parser<'t> {
+    fn new(text: &'t str, names: &Names) -> Result<Parser<'t>, TextError> {
+        Ok(Parser { tokens: tokens(text)?, next: 0, names: names.clone(), earlier: names.clone() })
+    }
+
     fn token(&self) -> &Token<'t> {
         &self.tokens[self.next].0
     }
@@ -186,6 +227,18 @@ impl<'t> Parser<'t> {
         self.tokens.get(self.next + 1).map_or(Token::End, |(token, _)| token.clone())
     }
 
+    /// `drop .`, if no atom is called so
+    fn takes_drop(&mut self) -> bool {
+        const DROP: &str = "drop";
+        let is_drop = *self.token() == Token::Name(DROP) && self.token_behind() == Token::Sign('.');
+        if !is_drop || self.names.atoms.number(DROP).is_some() {
+            return false;
+        }
+        self.advance();
+        self.advance();
+        true
+    }
+
     /// `= NAME .`
     fn declaration(&mut self, number: u16, table: fn(&mut Names) -> &mut Table) -> Result<(), TextError> {
         self.expect('=')?;
@@ -196,7 +249,9 @@ impl<'t> Parser<'t> {
             _ => return self.unexpected("a name"),
         };
         self.advance();
-        table(&mut self.names).declare(number, name).or_else(|message| error(place, message))?;
+        if table(&mut self.earlier).number(name) != Some(number) {
+            table(&mut self.names).declare(number, name).or_else(|message| error(place, message))?;
+        }
         self.expect('.')
     }
 

@@ -127,6 +127,58 @@ fn what_has_bytes_is_left_to_the_library() {
 }
 
 /// The line and column of a program's first mistake.
+fn steps(text: &str) -> Steps {
+    parse_steps(text, &Names::default()).unwrap_or_else(|error| panic!("{error}: {text}"))
+}
+
+#[test]
+fn an_assemblys_text_gives_steps_with_their_lines() {
+    let Steps { steps: found, lines, names } = steps("atom 1 = a.\na.\ndrop. never.\ntag 1 overrides tag 2.\n drop .");
+    let items = parsed("1. never. tag 1 overrides tag 2.").items;
+    let [fact, never, over] = <[Item; 3]>::try_from(items).unwrap().map(Step::Add);
+    assert_eq!(found, [fact, Step::DropLast, never, over, Step::DropLast]);
+    assert_eq!(lines, [2, 3, 3, 4, 5]);
+    assert_eq!(names, parsed("atom 1 = a.").names);
+    for item in &parsed("tag 7: 1 or -2 if 3 and not defeated(4, 5). tag 1 overrides tag 2. 1 and 2 oppose.").items {
+        let record = encode_record(item);
+        assert_eq!(encode_program(std::slice::from_ref(item)).bytes[..record.len()], record);
+    }
+}
+
+#[test]
+fn drop_may_be_a_name() {
+    // A text without a step back means what it means as a program.
+    let text = "atom 5 = drop. drop. tag 6 = drop. tag drop: -drop if drop.";
+    let as_program: Vec<_> = parsed(text).items.into_iter().map(Step::Add).collect();
+    assert_eq!(steps(text).steps, as_program);
+    assert_eq!(steps("tag 6 = drop. 1. drop.").steps[1..], [Step::DropLast]);
+    // A step of an assembly is no part of a program.
+    assert_eq!(parse_program("1. drop.").unwrap_err().message, "no atom is declared as `drop`");
+    for (text, message) in [
+        ("drop", "no atom is declared as `drop`"),
+        ("drop if 1.", "no atom is declared as `drop`"),
+        ("-drop.", "no atom is declared as `drop`"),
+    ] {
+        assert_eq!(parse_steps(text, &Names::default()).unwrap_err().message, message, "{text}");
+    }
+}
+
+#[test]
+fn names_of_texts_before_hold_and_may_be_declared_again() {
+    let before = steps("atom 1 = a. tag 1 = b.").names;
+    let after = parse_steps("atom 1 = a. tag 1 = b. atom 2 = c. tag b: a or c.", &before).unwrap();
+    assert_eq!(after.names, parsed("atom 1 = a. atom 2 = c. tag 1 = b.").names);
+    assert_eq!(after.steps, steps("tag 1: 1 or 2.").steps);
+    for (text, message) in [
+        ("atom 2 = a.", "`a` is declared already, for 1"),
+        ("atom 1 = c.", "1 has a name already, `a`"),
+        ("tag 1 = a.", "1 has a name already, `b`"),
+        ("atom 2 = c. atom 2 = c.", "`c` is declared already, for 2"),
+    ] {
+        assert_eq!(parse_steps(text, &before).unwrap_err().message, message, "{text}");
+    }
+}
+
 fn place_of(text: &str) -> (usize, usize) {
     let place = parse_program(text).expect_err(text).place;
     (place.line, place.column)

@@ -1,0 +1,9 @@
+pub mod Row
+pub mod State
+pub mod Change
+pub mod Session
+pub mod History
+pub mod Reached
+pub mod Turn
+pub mod Forms
+pub mod Answers
