@@ -10,7 +10,7 @@ if [ ! -f "$root/target/staticlib/libaspda.a" ]; then
     log=$(mktemp)
     # rt staticlib proves one crate after another, rt check several at a time: what aspda stands on comes first.
     # shellcheck disable=SC2046  # a list of crates
-    (cd "$root" && RT_JOBS=${RT_JOBS:-4} rt check $(sed -n 's/^aspda://p' crates.txt) && rt staticlib aspda) >"$log" 2>&1 ||
+    (cd "$root" && . .ci/temporary.sh && RT_JOBS=${RT_JOBS:-4} rt check $(sed -n 's/^aspda://p' crates.txt) && rt staticlib aspda) >"$log" 2>&1 ||
         { cat "$log" >&2; rm -f "$log"; exit 1; }
     rm -f "$log"
 fi

@@ -8,7 +8,7 @@ use crate::tell::tell_record;
 use crate::tell::tell_shown;
 use crate::tell::tell_written;
 use aspif::aspif::export_plain;
-use assembly_call::Assembly;
+use assembly_value::Assembly;
 use check_set::proposed::check_plain;
 use check_set::proposed::check_source;
 use extend::extend::extend_source;

@@ -16,7 +16,7 @@ use crate::ask::ask_text;
 use crate::ask::ask_translate;
 use crate::tell::front;
 use crate::tell::tell_written;
-use assembly_call::Assembly;
+use assembly_value::Assembly;
 use extend::extend::extend_source;
 use record::Written;
 use translate::translate::translate_source;

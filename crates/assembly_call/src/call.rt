@@ -4,14 +4,14 @@
 use assembly::Standing;
 use assembly_state::change::open_state;
 use assembly_state::change::put_shape;
-use assembly_state::inspect::inspect;
+use assembly_state::inspect::inspect_source;
 use buffer::put::put_byte;
 use literal::form::Source;
 use record::Reading;
 use record::Reason;
 use record::Refusal;
 use record::Written;
-use record_read::alone::read_rule;
+use record_rule::alone::read_rule;
 use record_write::copy::copy;
 use record_write::records::write_end;
 ghost use Prim.Native.Nat.{_+_, _≤_, _<_};
@@ -93,12 +93,11 @@ pub fn begin_state(state: &mut [u8], out: &[u8]) -> Reading
 pub fn add_record(state: &mut [u8], rule: &[u8], out: &mut [u8]) -> Reading
     ensures { λ r. ⌜ Meets (called source (add (now (rule .entry))) (now (state .entry)) (now (out .entry))) r (now (state .exit)) (now (out .exit)) ⌝ }
 {
-    let lim = Source::limits();
-    let standing = inspect(lim, state);
+    let standing = inspect_source(state);
     if !standing.active {
         return refuse(Reason::OutOfTurn);
     }
-    let read = read_rule(lim, rule, standing.rules);
+    let read = read_rule(Source::limits(), rule, standing.rules);
     match read {
         Written::Length(size) => hold_record(state, rule, out, standing, size),
         Written::Refused(x) => Reading::Refused(x),
@@ -109,8 +108,7 @@ pub fn add_record(state: &mut [u8], rule: &[u8], out: &mut [u8]) -> Reading
 pub fn drop_last(state: &mut [u8]) -> Reading
     ensures { λ r. ⌜ Keeps (called source dropLast (now (state .entry)) []) r (now (state .exit)) ⌝ }
 {
-    let lim = Source::limits();
-    let standing = inspect(lim, state);
+    let standing = inspect_source(state);
     if !standing.active {
         return refuse(Reason::OutOfTurn);
     }
@@ -119,7 +117,7 @@ pub fn drop_last(state: &mut [u8]) -> Reading
         return refuse(Reason::OutOfTurn);
     }
     let left = rules - 1;
-    put_shape(lim, state, left, left, 0, 0);
+    put_shape(Source::limits(), state, left, left, 0, 0);
     Reading::Count(left)
 }
 
@@ -127,8 +125,7 @@ pub fn drop_last(state: &mut [u8]) -> Reading
 pub fn close_state(state: &mut [u8], out: &mut [u8]) -> Reading
     ensures { λ r. ⌜ Meets (called source close (now (state .entry)) (now (out .entry))) r (now (state .exit)) (now (out .exit)) ⌝ }
 {
-    let lim = Source::limits();
-    let standing = inspect(lim, state);
+    let standing = inspect_source(state);
     if !standing.active {
         return refuse(Reason::OutOfTurn);
     }
@@ -146,6 +143,6 @@ pub fn close_state(state: &mut [u8], out: &mut [u8]) -> Reading
 pub fn measure_state(state: &[u8]) -> usize
     ensures { λ r. ⌜ r ≡ assembled source (now (state .entry)) ⌝ }
 {
-    let standing = inspect(Source::limits(), state);
+    let standing = inspect_source(state);
     standing.bytes + 4
 }

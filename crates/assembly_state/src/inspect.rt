@@ -1,15 +1,17 @@
-// What a state's bytes say: its header, then each held rule's two bytes, then nothing but zeros, in one pass. No loop stops early, and the
-// loop over the rules keeps sums and the largest figures alone: so the compiler takes sixteen bytes in one step.
+// What a state's bytes say: its header, then each held rule's two bytes, then nothing but zeros, in one pass. No loop stops early, and each
+// keeps sums and largest figures alone, of both rows at once: so the compiler takes sixteen bytes in one step.
 
 use crate::Figures;
 use crate::Tally;
 use assembly::Standing;
 use buffer::get::get_number;
 use literal::Limits;
+use literal::form::Source;
 ghost use Prim.Native.Nat.{_+_, _*_, _/_, _%_, _≤_};
 ghost use mathlib.Core.Path.{_≡_};
 ghost use lib.ListN.{length};
-ghost use Rattle.assembly.specs.State.{before, isHeaded, clearAt, stageOf};
+ghost use Rattle.literal.specs.Limits.{source};
+ghost use Rattle.assembly.specs.State.{before, isHeaded, stageOf};
 ghost use Rattle.assembly.specs.Code.{Assemblable, standingOf};
 ghost use Rattle.assembly_state.specs.Code.{larger, within, clearBehind, Tallied};
 
@@ -89,24 +91,6 @@ fn tally_shapes(lim: Limits, state: &[u8], rules: usize) -> Tally
     }
 }
 
-// Whether nothing but zeros stands at so many places.
-fn is_clear(state: &[u8], from: usize, count: usize) -> bool
-    requires { ⌜ from + count ≤ length (now state) ⌝ }
-    ensures { λ r. ⌜ r ≡ clearAt (now (state .entry)) from count ⌝ }
-{
-    let mut clear = true;
-    let mut at = from;
-    let mut left = count;
-    while 0 < left {
-        if state[at] != 0 {
-            clear = false;
-        }
-        at += 1;
-        left -= 1;
-    }
-    clear
-}
-
 // Whether nothing but zeros stands behind so many rules, in both rows.
 fn is_clear_behind(lim: Limits, state: &[u8], rules: usize) -> bool
     requires { ⌜ Assemblable lim ⌝ }
@@ -114,11 +98,16 @@ fn is_clear_behind(lim: Limits, state: &[u8], rules: usize) -> bool
     requires { ⌜ 8 + 2 * lim .rules ≤ length (now state) ⌝ }
     ensures { λ r. ⌜ r ≡ clearBehind lim (now (state .entry)) rules ⌝ }
 {
-    let behind = lim.rules - rules;
-    if !is_clear(state, 8 + rules, behind) {
-        return false;
+    let mut most: u8 = 0;
+    let mut at = 8 + rules;
+    let mut left = lim.rules - rules;
+    while 0 < left {
+        let larger = pick_larger(state[at], state[at + lim.rules]);
+        most = pick_larger(most, larger);
+        at += 1;
+        left -= 1;
     }
-    is_clear(state, 8 + lim.rules + rules, behind)
+    most == 0
 }
 
 // Whether no rule has more head or body literals than the form takes.
@@ -144,7 +133,7 @@ fn stand_before() -> Standing
 }
 
 // What a state says; bytes that are none count as one before the first begin.
-pub fn inspect(lim: Limits, state: &[u8]) -> Standing
+fn inspect(lim: Limits, state: &[u8]) -> Standing
     requires { ⌜ Assemblable lim ⌝ }
     ensures { λ r. ⌜ r ≡ standingOf (stageOf lim (now (state .entry))) ⌝ }
 {
@@ -166,4 +155,11 @@ pub fn inspect(lim: Limits, state: &[u8]) -> Standing
         rules,
         bytes,
     }
+}
+
+// The state of a source's assembly. Where no caller hands limits in, they are figures to the compiler, and not read from memory.
+pub fn inspect_source(state: &[u8]) -> Standing
+    ensures { λ r. ⌜ r ≡ standingOf (stageOf source (now (state .entry))) ⌝ }
+{
+    inspect(Source::limits(), state)
 }

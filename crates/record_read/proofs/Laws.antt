@@ -1,4 +1,1 @@
-pub mod Front
 pub mod Run
-pub mod Sheet
-pub mod Judged

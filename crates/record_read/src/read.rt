@@ -1,13 +1,8 @@
 // Reading a file: one record after another, each in its own part of the slice. Rules are read in runs: the loop over them knows nothing of
 // sheet records, which are few.
 
-use crate::Front;
 use crate::Rules;
 use crate::Stop;
-use crate::sheet::read_sheet;
-use crate::step::hold;
-use crate::step::read_body;
-use crate::step::read_front;
 use literal::Limits;
 use literal::form::Plain;
 use literal::form::Source;
@@ -18,6 +13,11 @@ use record::Reading;
 use record::Reason;
 use record::Refusal;
 use record::Step;
+use record_sheet::sheet::read_sheet;
+use record_step::Front;
+use record_step::step::hold;
+use record_step::step::read_body;
+use record_step::step::read_front;
 ghost use Prim.Native.Nat.{_*_, _≤_};
 ghost use mathlib.Core.Path.{_≡_};
 ghost use lib.ListN.{length};

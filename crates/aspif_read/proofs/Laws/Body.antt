@@ -18,8 +18,8 @@ use Rattle.record.specs.Result.{Result}
 use Rattle.record.specs.Reading.{Entry, literalsAt, bodyAt}
 use Rattle.record.specs.Code.{runOf, stepOf}
 use Rattle.record.proofs.Laws.Body.{body-cut, body-wrong, body-strict}
-use Rattle.record_read.specs.Code.{StepTold, LiteralsLeft}
-use Rattle.record_read.proofs.Laws.Front.{literals-step}
+use Rattle.record_step.specs.Code.{StepTold, LiteralsLeft}
+use Rattle.record_step.proofs.Laws.Front.{literals-step}
 use Rattle.aspif_number.specs.Code.{Gained, placesAt, literalCount}
 use Rattle.aspif_number.proofs.Laws.Run.{gained-told}
 use Rattle.aspif_read.specs.Code.{strictBody, RuleMarked, Marked}

@@ -1,5 +1,5 @@
 -- Laws of what a state says, test by test.
--- In order: each test of the header, where those before it passed; figures within the limits; zeros behind the rules; a test of a state that
+-- In order: each test of the header, where those before it passed; figures within the limits; a test of a state that
 -- fails; a state that passes all.
 -- Assumes nothing.
 use Prim.Native.Nat.{ℕ, zero, suc, _+_, _-_, _*_, _≤_, _<_}
@@ -14,7 +14,7 @@ use Rattle.buffer.specs.Bytes.{numberAt}
 use Rattle.literal.specs.declared.Limits.{Limits}
 use Rattle.semantics.specs.Set.{eachOf}
 use Rattle.semantics.proofs.Laws.Tests.{along}
-use Rattle.assembly.specs.State.{Stage, before, opened, closed, Shape, shapes, heldLength, keepsShape, stateBytes, shapesAt, clearAt, countAt, countRight, isHeaded, heldShapes, isState, stageWith, stageOf}
+use Rattle.assembly.specs.State.{before, Shape, shapes, heldLength, keepsShape, stateBytes, shapesAt, countAt, countRight, isHeaded, heldShapes, isState, stageWith, stageOf}
 use Rattle.assembly.specs.Code.{isOpen, standingOf}
 use Rattle.assembly.proofs.Laws.Row.{length-shapes}
 use Rattle.assembly.proofs.Laws.State.{headed-parts, stage-of, stage-none}
@@ -83,14 +83,6 @@ module _ (F : Limits) (h b : ℕ) where
 
   pub heads-right : h ≤ F .heads → within F h b ≡ leb b (F .positives + F .nafs)
   heads-right e = ap (λ (t : Bool). t && leb b (F .positives + F .nafs)) (le-leb h (F .heads) e)
-
--- zeros in the first row, then in the second
-module _ (F : Limits) (bs : List ℕ) (n : ℕ) where
-  pub first-row-wrong : clearAt bs (8 + n) (F .rules - n) ≡ false → clearBehind F bs n ≡ false
-  first-row-wrong e = ap (λ (t : Bool). t && clearAt bs (8 + F .rules + n) (F .rules - n)) e
-
-  pub first-row-clear : clearAt bs (8 + n) (F .rules - n) ≡ true → clearBehind F bs n ≡ clearAt bs (8 + F .rules + n) (F .rules - n)
-  first-row-clear e = ap (λ (t : Bool). t && clearAt bs (8 + F .rules + n) (F .rules - n)) e
 
 -- what is no state
 module _ (F : Limits) (bs : List ℕ) where

@@ -8,13 +8,13 @@ use mathlib.Core.Path.{_≡_, refl, sym, _∙_, ap, ap₂, subst}
 use mathlib.Core.Bool.{Bool, true, false, cond, not, _&&_, _||_, and-false, and-true, and-assoc}
 use mathlib.Core.List.{List, [], _∷_}
 use lib.Dec.{ltb, leb, eqb}
-use lib.ListN.{length, getD}
-use borrow.Author.Tests.{ltb-true, ltb-false, leb-true, leb-false, le-leb, lt-leb, eq-eqb, ne-eqb}
+use lib.ListN.{getD}
+use borrow.Author.Tests.{ltb-true, ltb-false, leb-true, le-leb, lt-leb, ne-eqb}
 use Rattle.literal.specs.declared.Limits.{Limits}
 use Rattle.semantics.specs.Set.{eachOf}
 use Rattle.assembly.specs.State.{Shape, keepsShape, shapeAt, shapesAt, clearAt}
 use Rattle.assembly_state.specs.declared.Tally.{Tally}
-use Rattle.assembly_state.specs.Code.{larger, headsOf, bodyOf, within, Tallied}
+use Rattle.assembly_state.specs.Code.{larger, headsOf, bodyOf, within, clearBehind, Tallied}
 
 -- the larger of two is at most k where both are
 larger-most : (a b k : ℕ) → leb (larger a b) k ≡ (leb a k && leb b k)
@@ -132,13 +132,17 @@ module _ {F : Limits} {bs : List ℕ} {n mh mb heads body at left : ℕ} (w : Ta
       zero-left : left ≡ 0
       zero-left = omega (arith, none)
 
--- zeros, as far as they were looked at
-pub record Clearing (bs : List ℕ) (from count : ℕ) (clear : Bool) (at left : ℕ) : Type 0 where
-  pub place : at + left ≡ from + count
-  pub same : clearAt bs from count ≡ (clear && clearAt bs at left)
+-- zeros behind n rules, as far as they were looked at: the largest byte of both rows
+pub record Clearing (F : Limits) (bs : List ℕ) (n most at left : ℕ) : Type 0 where
+  pub place : at + left ≡ 8 + F .rules
+  pub same : clearBehind F bs n ≡ (leb most 0 && (clearAt bs at left && clearAt bs (at + F .rules) left))
 
-pub clearing-start : (bs : List ℕ) (from count : ℕ) → Clearing bs from count true from count
-clearing-start bs from count = record { place = refl; same = refl }
+pub clearing-start : (F : Limits) (bs : List ℕ) (n : ℕ) → n ≤ F .rules → Clearing F bs n 0 (8 + n) (F .rules - n)
+clearing-start F bs n few =
+    record { place = omega arith; same = ap (λ (k : ℕ). clearAt bs (8 + n) (F .rules - n) && clearAt bs k (F .rules - n)) beside }
+  where
+    beside : 8 + F .rules + n ≡ 8 + n + F .rules
+    beside = omega arith
 
 clear-next : (bs : List ℕ) (at left : ℕ) → 0 < left → clearAt bs at left ≡ (eqb (getD bs at 0) 0 && clearAt bs (at + 1) (left - 1))
 unfolding clearAt
@@ -148,30 +152,43 @@ clear-next bs at (suc left) h = ap (λ (k : ℕ). eqb (getD bs at 0) 0 && clearA
     one-less : left ≡ suc left - 1
     one-less = omega arith
 
-module _ {bs : List ℕ} {from count : ℕ} {clear : Bool} {at left : ℕ} (w : Clearing bs from count clear at left) (some : 0 < left) where
-  -- a byte that is not 0
-  pub clearing-wrong : (getD bs at 0 ≡ 0 → ⊥) → Clearing bs from count false (at + 1) (left - 1)
-  clearing-wrong e =
+-- a byte is 0 if it is at most 0
+zero-most : (b : ℕ) → eqb b 0 ≡ leb b 0
+zero-most zero = refl
+zero-most (suc b) = ne-eqb (suc b) 0 (λ e. omega (arith, e)) ∙ sym (lt-leb (suc b) 0 (omega arith))
+
+-- the bytes of both rows are asked before what is left of them
+both-first : (m x y a b : Bool) → (m && ((x && a) && (y && b))) ≡ ((m && (x && y)) && (a && b))
+both-first false x y a b = refl
+both-first true false y a b = refl
+both-first true true false a b = and-false a
+both-first true true true a b = refl
+
+module _ {F : Limits} {bs : List ℕ} {n most at left : ℕ} (w : Clearing F bs n most at left) where
+  pub clearing-next : 0 < left → (l m : ℕ) → l ≡ larger (getD bs at 0) (getD bs (at + F .rules) 0) → m ≡ larger most l
+      → Clearing F bs n m (at + 1) (left - 1)
+  clearing-next some l m l-is m-is =
+      let x = getD bs at 0 in
+      let y = getD bs (at + F .rules) 0 in
+      let rest = clearAt bs (at + 1) (left - 1) in
+      let rest-beside = clearAt bs (at + 1 + F .rules) (left - 1) in
+      let beside : at + F .rules + 1 ≡ at + 1 + F .rules = omega arith in
       record {
         place = omega (arith, w .place);
         same =
-            w .same ∙ ap (λ (t : Bool). clear && t) (clear-next bs at left some ∙ ap (λ (t : Bool). t && clearAt bs (at + 1) (left - 1)) (ne-eqb (getD bs at 0) 0 e))
-            ∙ and-false clear;
+            w .same
+            ∙ ap₂ (λ (s t : Bool). leb most 0 && (s && t)) (clear-next bs at left some ∙ ap (λ (t : Bool). t && rest) (zero-most x))
+            (clear-next bs (at + F .rules) left some ∙ ap₂ (λ (t : Bool) (k : ℕ). t && clearAt bs k (left - 1)) (zero-most y) beside)
+            ∙ both-first (leb most 0) (leb x 0) (leb y 0) rest rest-beside
+            ∙ ap (λ (t : Bool). t && (rest && rest-beside))
+            (ap (λ (t : Bool). leb most 0 && t) (sym (larger-most x y 0) ∙ ap (λ (k : ℕ). leb k 0) (sym l-is)) ∙ sym (larger-most most l 0) ∙ ap (λ (k : ℕ). leb k 0) (sym m-is));
       }
 
-  -- a 0
-  pub clearing-right : getD bs at 0 ≡ 0 → Clearing bs from count clear (at + 1) (left - 1)
-  clearing-right e =
-      record {
-        place = omega (arith, w .place);
-        same =
-            w .same ∙ ap (λ (t : Bool). clear && t) (clear-next bs at left some ∙ ap (λ (t : Bool). t && clearAt bs (at + 1) (left - 1)) (eq-eqb (getD bs at 0) 0 e));
-      }
-
-pub clearing-end : {bs : List ℕ} {from count : ℕ} {clear : Bool} {at left : ℕ} → Clearing bs from count clear at left → left ≤ 0 → clear ≡ clearAt bs from count
-unfolding clearAt
-clearing-end {bs} {from} {count} {clear} {at} {left} w none =
-    sym (w .same ∙ ap (λ (k : ℕ). clear && clearAt bs at k) zero-left ∙ and-true clear)
-  where
-    zero-left : left ≡ 0
-    zero-left = omega (arith, none)
+  pub clearing-end : left ≤ 0 → eqb most 0 ≡ clearBehind F bs n
+  unfolding clearAt
+  clearing-end none =
+      zero-most most
+      ∙ sym (w .same ∙ ap (λ (k : ℕ). leb most 0 && (clearAt bs at k && clearAt bs (at + F .rules) k)) zero-left ∙ and-true (leb most 0))
+    where
+      zero-left : left ≡ 0
+      zero-left = omega (arith, none)

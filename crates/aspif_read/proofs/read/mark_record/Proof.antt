@@ -5,8 +5,8 @@ use borrow.Author.Needs.{needs}
 use denote.Ref.{now}
 use Rattle.record.specs.Reading.{recordAt}
 use Rattle.record.proofs.Laws.Header.{record-unmarked}
-use Rattle.record_read.specs.Code.{LiteralsLeft}
-use Rattle.record_read.proofs.Laws.Front.{front-told, front-literals, front-other, other-unmarked}
+use Rattle.record_step.specs.Code.{LiteralsLeft}
+use Rattle.record_step.proofs.Laws.Front.{front-told, front-literals, front-other, other-unmarked}
 use Rattle.aspif_read.proofs.Laws.Body.{strict-step, refused-marked, told-marked}
 use Rattle.aspif_read.proofs.read.mark_record.Statement.{statement}
 use Rattle.aspif_read.proofs.read.mark_record.Tie as tie

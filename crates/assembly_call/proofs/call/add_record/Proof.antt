@@ -1,6 +1,6 @@
 -- `call::add_record` meets its contract: no open assembly, what reading refuses, or what holding the record comes to.
 -- Assumes nothing.
-use mathlib.Core.Path.{_≡_, refl, sym, ap, subst, _∙_}
+use mathlib.Core.Path.{_≡_, refl, sym, ap, _∙_}
 use borrow.Author.Needs.{needs}
 use borrow.Author.Tests.{not-true, not-false}
 use denote.Ref.{now}
@@ -12,37 +12,33 @@ use Rattle.record.specs.Code.{sizeOf}
 use Rattle.record.proofs.Laws.Only.{size-accepted, size-refused}
 use Rattle.assembly.specs.declared.Standing.{Standing}
 use Rattle.assembly.specs.State.{stageOf}
-use Rattle.assembly.specs.Code.{Assemblable, standingOf}
-use Rattle.assembly.proofs.Laws.Turn.{Active, active-state, idle-add, add-refused}
+use Rattle.assembly.specs.Code.{standingOf}
+use Rattle.assembly.proofs.Laws.Turn.{active-state, idle-add, add-refused}
 use Rattle.assembly.proofs.Laws.Forms.{assemblable-source}
 use Rattle.assembly_call.proofs.Laws.Calls.{refused-meets}
 use Rattle.assembly_call.proofs.call.add_record.Statement.{statement}
 use Rattle.assembly_call.proofs.call.add_record.Tie as tie
 
-abbrev start-of : tie.After-inspect → tie.Start
-start-of c =
-    let at-limits = c .before .before in
-    at-limits .before .before .before .before
-
-inspect-requires : tie.Need-inspect-requires
-inspect-requires c κs = subst Assemblable (sym (c .before .limits .ensures)) assemblable-source
+abbrev start-of : tie.After-inspect-source → tie.Start
+start-of c = c .before .before .before .before .before
 
 -- what the state says
-standing : (c : tie.After-inspect) → c .inspect .result ≡ standingOf (stageOf source (now (start-of c .args .state)))
-standing c = c .inspect .ensures ∙ ap (λ (F : Limits). standingOf (stageOf F (now (start-of c .args .state)))) (c .before .before .limits .ensures)
+standing : (c : tie.After-inspect-source) → c .inspect-source .result ≡ standingOf (stageOf source (now (start-of c .args .state)))
+standing c = c .inspect-source .ensures
 
 -- its elements are bytes
-bytes : (c : tie.After-inspect) → Bytes (now (start-of c .args .state))
-bytes c i = c .before .before .before .before .before .slice-known .given i .fits
+bytes : (c : tie.After-inspect-source) → Bytes (now (start-of c .args .state))
+bytes c i = c .before .before .before .before .slice-known .given i .fits
 
-abbrev said-of : tie.Else1 → tie.After-inspect
+abbrev said-of : tie.Else1 → tie.After-inspect-source
 said-of c = c .before .before
 
 -- what reading the record came to
-read : (c : tie.After-read-rule) → c .read-rule .result ≡ sizeOf (ruleOnly source (said-of (c .before) .inspect .result .rules) (now (start-of (said-of (c .before)) .args .rule)))
+read : (c : tie.After-read-rule) → (let said = said-of (c .before .before) in
+    c .read-rule .result ≡ sizeOf (ruleOnly source (said .inspect-source .result .rules) (now (start-of said .args .rule))))
 read c =
-    let said = said-of (c .before) in
-    c .read-rule .ensures ∙ ap (λ (F : Limits). sizeOf (ruleOnly F (said .inspect .result .rules) (now (start-of said .args .rule)))) (said .before .before .limits .ensures)
+    let said = said-of (c .before .before) in
+    c .read-rule .ensures ∙ ap (λ (F : Limits). sizeOf (ruleOnly F (said .inspect-source .result .rules) (now (start-of said .args .rule)))) (c .before .limits .ensures)
 
 returns : tie.Need-returns
 returns c =
@@ -54,8 +50,8 @@ hold-record-requires : tie.Need-hold-record-requires
 hold-record-requires c κs =
     let at-size = c .before .before .before in
     let at-read = at-size .before .before in
-    let said = said-of (at-read .before) in
-    (standing said, (not-false _ (at-read .before .if1 .left), size-accepted _ _ (sym (read at-read) ∙ at-size .read .given .1)))
+    let said = said-of (at-read .before .before) in
+    (standing said, (not-false _ (at-read .before .before .if1 .left), size-accepted _ _ (sym (read at-read) ∙ at-size .read .given .1)))
 
 returns-2 : tie.Need-returns-2
 returns-2 c = c .before .before .before .before .hold-record .ensures
@@ -64,13 +60,13 @@ returns-3 : tie.Need-returns-3
 returns-3 c =
     let at-refused = c .before in
     let at-read = at-refused .before .before in
-    let at-if = at-read .before in
+    let at-if = at-read .before .before in
     let said = said-of at-if in
     let a = start-of said .args in
-    let w = active-state source assemblable-source (now (a .state)) (bytes said) (said .inspect .result) (standing said) (not-false _ (at-if .if1 .left)) in
+    let w = active-state source assemblable-source (now (a .state)) (bytes said) (said .inspect-source .result) (standing said) (not-false _ (at-if .if1 .left)) in
     refused-meets _ _ _ _ _ (add-refused source assemblable-source _ _ _ _ w (now (a .rule)) _ (size-refused _ _ (sym (read at-read) ∙ at-refused .read2 .given .1))) refl
 
 pub add-record-spec : {M : Type 1} → statement M
 add-record-spec =
-    tie.close (tie.spec (λ c κs. search needs) inspect-requires (λ c κs. search needs) (λ c. search needs) returns (λ c κs. search needs) (λ c. search needs)
-    hold-record-requires (λ c. search needs) (λ c. search needs) (λ c. search needs) returns-2 (λ c. search needs) returns-3)
+    tie.close (tie.spec (λ c κs. search needs) (λ c κs. search needs) (λ c. search needs) returns (λ c κs. search needs) (λ c κs. search needs)
+    (λ c. search needs) hold-record-requires (λ c. search needs) (λ c. search needs) (λ c. search needs) returns-2 (λ c. search needs) returns-3)

@@ -13,8 +13,8 @@ use Rattle.record.specs.declared.Step.{Step}
 use Rattle.record.specs.declared.Held.{Held}
 use Rattle.record.specs.Reading.{recordAt}
 use Rattle.record.specs.Code.{stepOf}
-use Rattle.record_read.specs.Code.{LiteralsLeft}
-use Rattle.record_read.proofs.Laws.Front.{front-told, front-literals, front-other, literals-step}
+use Rattle.record_step.specs.Code.{LiteralsLeft}
+use Rattle.record_step.proofs.Laws.Front.{front-told, front-literals, front-other, literals-step}
 use Rattle.record_read.proofs.Laws.Run.{Going, going-start, rule-sized, going-next, going-stopped}
 use Rattle.record_read.proofs.read.read_rules.Statement.{statement}
 use Rattle.record_read.proofs.read.read_rules.Tie as tie

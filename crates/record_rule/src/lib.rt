@@ -1,0 +1,3 @@
+// A rule's record by itself.
+
+pub mod alone;

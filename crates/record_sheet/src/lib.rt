@@ -1,0 +1,3 @@
+// A preference sheet's record.
+
+pub mod sheet;
