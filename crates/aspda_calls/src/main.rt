@@ -1,6 +1,8 @@
 // A program that calls every entry point that Rattle code has, on document 01's marked examples and document 02's program with
 // the fact 1, assembles a program, and tells what each answers.
 // tests/calls.py makes the same lines from the reference alone.
+
+#![tactic(auto)]
 mod ask;
 mod tell;
 

@@ -1,5 +1,7 @@
 // Program assembly: what a state's bytes say, and what each call answers, keeps and writes; definitions and laws.
 
+#![tactic(auto)]
+
 // What a state says. Before the first begin nothing is held, and bytes that are no state count as such a state.
 #[derive(Drop)]
 pub struct Standing {

@@ -1,3 +1,5 @@
 // The calls of an assembly, on a state in a lent slice.
 
+#![tactic(auto)]
+
 pub mod call;

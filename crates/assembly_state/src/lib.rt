@@ -1,5 +1,7 @@
 // An assembly's state in its bytes: what it says, told in one pass, and the bytes that a call changes.
 
+#![tactic(auto)]
+
 // What the bytes of one row come to: the most that one rule has, and the sum.
 #[derive(Drop)]
 pub struct Figures {

@@ -1,5 +1,7 @@
 // An assembly's state by value: it goes into each call and comes back beside the answer.
 
+#![tactic(auto)]
+
 use record::Reading;
 
 // An assembly's state. All zero is a state before the first begin, and so count bytes that no call gives back.

@@ -1,5 +1,7 @@
 // A program's rules as clauses over the positions of a set's literals, and the first rule that is broken.
 
+#![tactic(auto)]
+
 use literal::RuleNo;
 
 pub mod build;

@@ -1,5 +1,7 @@
 // Which open literal a search over clauses tries: positions counted, and chosen by their counts.
 
+#![tactic(auto)]
+
 mod count;
 pub mod pick;
 

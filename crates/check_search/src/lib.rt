@@ -1,5 +1,7 @@
 // The first smaller model of a set: clauses over masks of the set's positions.
 
+#![tactic(auto)]
+
 pub mod find;
 
 // The first smaller model, if there is one.

@@ -1,5 +1,7 @@
 // The check of a proposed set: the verdict on a program and a set that were read, and the operation around it.
 
+#![tactic(auto)]
+
 use literal::RuleNo;
 use record::Refusal;
 

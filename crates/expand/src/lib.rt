@@ -1,5 +1,7 @@
 // A source's normal form: its rules, and behind them those that its preference sheets append, with no sheet.
 
+#![tactic(auto)]
+
 // What was written: how many bytes there are, and whether sheet records are among them.
 #[derive(Drop)]
 pub struct Made {

@@ -1,5 +1,7 @@
 // A file's items told apart: its rules' records copied, its overrides and oppositions put into tables.
 
+#![tactic(auto)]
+
 pub mod collect;
 
 // What the items that are gone came to.

@@ -1,3 +1,5 @@
 // The rules that preference sheets append, written by the tables.
 
+#![tactic(auto)]
+
 pub mod append;

@@ -1,5 +1,7 @@
 // The tables by which code sees what preference sheets append: overrides as positions of masks, options as places.
 
+#![tactic(auto)]
+
 pub mod place;
 pub mod sheets;
 

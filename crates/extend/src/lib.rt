@@ -1,3 +1,5 @@
 // The extension of a source set.
 
+#![tactic(auto)]
+
 pub mod extend;

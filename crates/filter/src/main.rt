@@ -1,5 +1,7 @@
 // The filter program: a source on standard input, its translation or an R: record on standard output.
 // All that matters is `filter_print::filter::filter_translate`, a proved function on bytes; this program only reads and writes.
+
+#![tactic(auto)]
 use filter_print::filter::{INPUT, OUTPUT, filter_translate};
 use libc::{STDIN_FILENO, STDOUT_FILENO};
 

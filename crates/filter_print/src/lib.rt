@@ -1,3 +1,5 @@
 // What the filter program prints.
 
+#![tactic(auto)]
+
 pub mod filter;

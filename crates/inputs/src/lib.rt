@@ -1,5 +1,7 @@
 // A program and a set, read one behind the other.
 
+#![tactic(auto)]
+
 use record::{Held, Refusal};
 
 // What reading a file and a set answers.

@@ -2,6 +2,8 @@
 // A literal is five bytes: kind (1), tag (2), atom or rule number (2), the highest byte first. `literal_fields` puts them,
 // `literal_decode` reads them; what they are is defined here.
 
+#![tactic(auto)]
+
 // A tag of defeasible rules, 1 to 200. Rules share tags, so a tag is no rule number.
 #[derive(Drop)]
 pub struct Tag(pub u16);

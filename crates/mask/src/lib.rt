@@ -1,5 +1,7 @@
 // A u64 as a set of positions.
 
+#![tactic(auto)]
+
 ghost use Rattle.std.specs.Prelude.{◌-◌, ◌^◌, ◌≤◌, ◌<◌, ◌≡◌};
 ghost use Rattle.std.specs.Int.Bits.{bit_and};
 ghost use Rattle.mask.specs.Code.{has, Highest};

@@ -1,5 +1,7 @@
 // Records and programs: what reading finds in a slice, and what an operation refuses.
 
+#![tactic(auto)]
+
 // Why an operation refuses. Document 01's number of each reason is `reason_number` of specs/Refusal.antt.
 #[derive(Drop)]
 pub enum Reason {

@@ -1,5 +1,7 @@
 // Reading a file in a form: what it holds, or why and where it is refused.
 
+#![tactic(auto)]
+
 use record::Step;
 
 // What ends a run of rules.

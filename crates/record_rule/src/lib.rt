@@ -1,3 +1,5 @@
 // A rule's record by itself.
 
+#![tactic(auto)]
+
 pub mod alone;

@@ -1,3 +1,5 @@
 // A preference sheet's record.
 
+#![tactic(auto)]
+
 pub mod sheet;

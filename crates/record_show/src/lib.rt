@@ -1,5 +1,7 @@
 // Showing a rule's record: where it lies in its program, and the record itself.
 
+#![tactic(auto)]
+
 use record::Refusal;
 
 // Where a record lies in its slice.

@@ -1,5 +1,7 @@
 // One record of a file: what stands before its literals, a rule's literals, the end.
 
+#![tactic(auto)]
+
 use record::Step;
 
 // How a record starts, as far as rules go.

@@ -1,5 +1,7 @@
 // Sets of literals as A: records: reading one, and membership in its slice.
 
+#![tactic(auto)]
+
 pub mod header;
 pub mod member;
 pub mod read;

@@ -13,5 +13,5 @@ returns c = sym (ap (λ (n : ℕ). 2 ^ n - 1) c.if1.true)
 returns-2 : tie.Need-returns-2
 returns-2 c = ones-shifted c.before.args.n c.before.requires
 
-pub all-below-spec : {M : Type 1} → statement M
-all-below-spec = tie.close (tie.spec returns (λ c. search rules) (λ c. search rules) (λ c. search rules) returns-2)
+pub all_below_spec : {M : Type 1} → statement M
+all_below_spec = tie.close (tie.spec returns (λ c. search rules) (λ c. search rules) (λ c. search rules) returns-2)

@@ -25,5 +25,5 @@ sub-result c = omega (arith, (leading_top 64 c.args.m c.requires c.ranges.m.fits
 returns : tie.Need-returns
 returns c = shifted c.args.m c.requires c.ranges.m.fits
 
-pub highest-spec : {M : Type 1} → statement M
-highest-spec = tie.close (tie.spec sub-result (λ c. search rules) (λ c. search rules) returns)
+pub highest_spec : {M : Type 1} → statement M
+highest_spec = tie.close (tie.spec sub-result (λ c. search rules) (λ c. search rules) returns)

@@ -8,5 +8,5 @@ use Rattle.mask.proofs.is_in.Tie as tie
 returns : tie.Need-returns
 returns c = digit-shifted c.args.m c.args.i
 
-pub is-in-spec : {M : Type 1} → statement M
-is-in-spec = tie.close (tie.spec (λ c. search rules) returns)
+pub is_in_spec : {M : Type 1} → statement M
+is_in_spec = tie.close (tie.spec (λ c. search rules) returns)

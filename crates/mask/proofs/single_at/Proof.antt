@@ -8,5 +8,5 @@ use Rattle.mask.proofs.single_at.Tie as tie
 returns : tie.Need-returns
 returns c = one_shifted c.args.i c.requires
 
-pub single-at-spec : {M : Type 1} → statement M
-single-at-spec = tie.close (tie.spec (λ c. search rules) returns)
+pub single_at_spec : {M : Type 1} → statement M
+single_at_spec = tie.close (tie.spec (λ c. search rules) returns)

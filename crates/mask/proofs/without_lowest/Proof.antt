@@ -5,5 +5,5 @@ use borrow.Author.Rules.{rules}
 use Rattle.mask.proofs.without_lowest.Statement.{statement}
 use Rattle.mask.proofs.without_lowest.Tie as tie
 
-pub without-lowest-spec : {M : Type 1} → statement M
-without-lowest-spec = tie.close (tie.spec (λ c. search rules) (λ c. search rules) (λ c. refl))
+pub without_lowest_spec : {M : Type 1} → statement M
+without_lowest_spec = tie.close (tie.spec (λ c. search rules) (λ c. search rules) (λ c. refl))

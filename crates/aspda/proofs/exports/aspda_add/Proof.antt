@@ -21,5 +21,5 @@ returns c =
     let met = at-add.add-record.ensures in
     record { answer = c.reading-word.ensures ∙ ap reading_word met.answer; state = met.state; buffer = met.buffer }
 
-pub aspda-add-spec : {M : Type 1} → statement M
-aspda-add-spec = tie.close (tie.spec (λ c κs. search rules) reading-word-requires (λ c. search rules) (λ c. search rules) returns)
+pub aspda_add_spec : {M : Type 1} → statement M
+aspda_add_spec = tie.close (tie.spec (λ c κs. search rules) reading-word-requires (λ c. search rules) (λ c. search rules) returns)

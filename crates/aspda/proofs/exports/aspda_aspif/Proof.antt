@@ -21,5 +21,5 @@ returns c =
     let met = c.before.before.before.export-plain.ensures in
     record { answer = c.written-word.ensures ∙ ap written_word met.answer; buffer = met.buffer }
 
-pub aspda-aspif-spec : {M : Type 1} → statement M
-aspda-aspif-spec = tie.close (tie.spec (λ c κs. search rules) written-word-requires (λ c. search rules) returns)
+pub aspda_aspif_spec : {M : Type 1} → statement M
+aspda_aspif_spec = tie.close (tie.spec (λ c κs. search rules) written-word-requires (λ c. search rules) returns)

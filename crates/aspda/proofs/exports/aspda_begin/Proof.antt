@@ -19,5 +19,5 @@ returns c =
     let kept = c.before.before.before.begin-state.ensures in
     record { answer = c.reading-word.ensures ∙ ap reading_word kept.answer; state = kept.state }
 
-pub aspda-begin-spec : {M : Type 1} → statement M
-aspda-begin-spec = tie.close (tie.spec (λ c κs. search rules) reading-word-requires (λ c. search rules) returns)
+pub aspda_begin_spec : {M : Type 1} → statement M
+aspda_begin_spec = tie.close (tie.spec (λ c κs. search rules) reading-word-requires (λ c. search rules) returns)

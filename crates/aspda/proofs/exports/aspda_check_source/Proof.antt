@@ -24,5 +24,5 @@ returns c =
     let met = c.before.before.before.check_source.ensures in
     record { answer = c.check-word.ensures ∙ ap check_word met.answer; buffer = met.buffer }
 
-pub aspda-check-source-spec : {M : Type 1} → statement M
-aspda-check-source-spec = tie.close (tie.spec (λ c κs. search rules) check-word-requires (λ c. search rules) returns)
+pub aspda_check_source_spec : {M : Type 1} → statement M
+aspda_check_source_spec = tie.close (tie.spec (λ c κs. search rules) check-word-requires (λ c. search rules) returns)

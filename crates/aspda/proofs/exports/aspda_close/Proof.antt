@@ -20,5 +20,5 @@ returns c =
     let met = at-close.close-state.ensures in
     record { answer = c.reading-word.ensures ∙ ap reading_word met.answer; state = met.state; buffer = met.buffer }
 
-pub aspda-close-spec : {M : Type 1} → statement M
-aspda-close-spec = tie.close (tie.spec (λ c κs. search rules) reading-word-requires (λ c. search rules) (λ c. search rules) returns)
+pub aspda_close_spec : {M : Type 1} → statement M
+aspda_close_spec = tie.close (tie.spec (λ c κs. search rules) reading-word-requires (λ c. search rules) (λ c. search rules) returns)

@@ -20,5 +20,5 @@ returns c =
     let kept = c.before.before.before.drop-last.ensures in
     record { answer = c.reading-word.ensures ∙ ap reading_word kept.answer; state = kept.state }
 
-pub aspda-drop-spec : {M : Type 1} → statement M
-aspda-drop-spec = tie.close (tie.spec (λ c κs. search rules) reading-word-requires (λ c. search rules) returns)
+pub aspda_drop_spec : {M : Type 1} → statement M
+aspda_drop_spec = tie.close (tie.spec (λ c κs. search rules) reading-word-requires (λ c. search rules) returns)

@@ -22,5 +22,5 @@ returns c =
     let met = c.before.before.before.extend-source.ensures in
     record { answer = c.written-word.ensures ∙ ap written_word met.answer; buffer = met.buffer }
 
-pub aspda-extend-spec : {M : Type 1} → statement M
-aspda-extend-spec = tie.close (tie.spec (λ c κs. search rules) written-word-requires (λ c. search rules) returns)
+pub aspda_extend_spec : {M : Type 1} → statement M
+aspda_extend_spec = tie.close (tie.spec (λ c κs. search rules) written-word-requires (λ c. search rules) returns)

@@ -22,5 +22,5 @@ returns c =
     let met = c.before.before.before.quotient_plain.ensures in
     record { answer = c.written-word.ensures ∙ ap written_word met.answer; buffer = met.buffer }
 
-pub aspda-quotient-plain-spec : {M : Type 1} → statement M
-aspda-quotient-plain-spec = tie.close (tie.spec (λ c κs. search rules) written-word-requires (λ c. search rules) returns)
+pub aspda_quotient_plain_spec : {M : Type 1} → statement M
+aspda_quotient_plain_spec = tie.close (tie.spec (λ c κs. search rules) written-word-requires (λ c. search rules) returns)

@@ -16,5 +16,5 @@ reading-word-requires c κs = reading-short plain (omega arith) c.before.before.
 returns : tie.Need-returns
 returns c = c.reading-word.ensures ∙ ap reading_word c.before.read_plain.ensures
 
-pub aspda-read-plain-spec : {M : Type 1} → statement M
-aspda-read-plain-spec = tie.close (tie.spec (λ c κs. search rules) reading-word-requires returns)
+pub aspda_read_plain_spec : {M : Type 1} → statement M
+aspda_read_plain_spec = tie.close (tie.spec (λ c κs. search rules) reading-word-requires returns)

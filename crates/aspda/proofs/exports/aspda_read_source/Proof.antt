@@ -16,5 +16,5 @@ reading-word-requires c κs = reading-short source (omega arith) c.before.before
 returns : tie.Need-returns
 returns c = c.reading-word.ensures ∙ ap reading_word c.before.read-source.ensures
 
-pub aspda-read-source-spec : {M : Type 1} → statement M
-aspda-read-source-spec = tie.close (tie.spec (λ c κs. search rules) reading-word-requires returns)
+pub aspda_read_source_spec : {M : Type 1} → statement M
+aspda_read_source_spec = tie.close (tie.spec (λ c κs. search rules) reading-word-requires returns)

@@ -21,5 +21,5 @@ returns c =
     let met = c.before.before.before.restrict-plain.ensures in
     record { answer = c.written-word.ensures ∙ ap written_word met.answer; buffer = met.buffer }
 
-pub aspda-restrict-spec : {M : Type 1} → statement M
-aspda-restrict-spec = tie.close (tie.spec (λ c κs. search rules) written-word-requires (λ c. search rules) returns)
+pub aspda_restrict_spec : {M : Type 1} → statement M
+aspda_restrict_spec = tie.close (tie.spec (λ c κs. search rules) written-word-requires (λ c. search rules) returns)

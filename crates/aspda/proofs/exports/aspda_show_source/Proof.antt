@@ -18,5 +18,5 @@ shown-word-requires c κs =
 returns : tie.Need-returns
 returns c = c.shown-word.ensures ∙ ap shown_word c.before.find-source.ensures
 
-pub aspda-show-source-spec : {M : Type 1} → statement M
-aspda-show-source-spec = tie.close (tie.spec (λ c κs. search rules) shown-word-requires returns)
+pub aspda_show_source_spec : {M : Type 1} → statement M
+aspda_show_source_spec = tie.close (tie.spec (λ c κs. search rules) shown-word-requires returns)

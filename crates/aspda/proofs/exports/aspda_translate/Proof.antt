@@ -21,5 +21,5 @@ returns c =
     let met = c.before.before.before.translate-source.ensures in
     record { answer = c.written-word.ensures ∙ ap written_word met.answer; buffer = met.buffer }
 
-pub aspda-translate-spec : {M : Type 1} → statement M
-aspda-translate-spec = tie.close (tie.spec (λ c κs. search rules) written-word-requires (λ c. search rules) returns)
+pub aspda_translate_spec : {M : Type 1} → statement M
+aspda_translate_spec = tie.close (tie.spec (λ c κs. search rules) written-word-requires (λ c. search rules) returns)

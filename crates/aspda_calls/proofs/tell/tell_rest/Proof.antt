@@ -12,8 +12,8 @@ invariant-loop b i₀ t3 i = i ≤ length b
 abbrev decreases-loop : tie.decreases-loop
 decreases-loop b i₀ t3 i = length b - i
 
-pub tell-rest-spec : {M : Type 1} → statement M
-tell-rest-spec =
+pub tell_rest_spec : {M : Type 1} → statement M
+tell_rest_spec =
     tie.close (tie.spec invariant-loop decreases-loop (λ c. search rules) (λ c κs. search rules) (λ c. search rules) (λ c. search rules)
     (λ c κs. search rules) (λ c. search rules) (λ c. search rules) (λ c. search rules) (λ c. search rules) (λ c κs. search rules)
     (λ c. search rules))

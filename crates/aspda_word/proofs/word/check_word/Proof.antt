@@ -19,5 +19,5 @@ returns c = c.verdict-word.ensures ∙ sym (ap check_word c.before.before.a.give
 returns-2 : tie.Need-returns-2
 returns-2 c = c.refusal-word.ensures ∙ sym (ap check_word c.before.before.a2.given.1)
 
-pub check-word-spec : {M : Type 1} → statement M
-check-word-spec = tie.close (tie.spec (λ c. search rules) verdict-word-requires (λ c. search rules) refusal-word-requires returns returns-2)
+pub check_word_spec : {M : Type 1} → statement M
+check_word_spec = tie.close (tie.spec (λ c. search rules) verdict-word-requires (λ c. search rules) refusal-word-requires returns returns-2)

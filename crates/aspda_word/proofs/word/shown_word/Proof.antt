@@ -19,5 +19,5 @@ returns c = c.extent-word.ensures ∙ sym (ap shown_word c.before.before.a.given
 returns-2 : tie.Need-returns-2
 returns-2 c = c.refusal-word.ensures ∙ sym (ap shown_word c.before.before.a2.given.1)
 
-pub shown-word-spec : {M : Type 1} → statement M
-shown-word-spec = tie.close (tie.spec (λ c. search rules) extent-word-requires (λ c. search rules) refusal-word-requires returns returns-2)
+pub shown_word_spec : {M : Type 1} → statement M
+shown_word_spec = tie.close (tie.spec (λ c. search rules) extent-word-requires (λ c. search rules) refusal-word-requires returns returns-2)

@@ -26,7 +26,7 @@ returns-3 c = sym (ap verdict_word c.before.v3.given.1)
 returns-4 : tie.Need-returns-4
 returns-4 c = sym (ap verdict_word c.enum_told.given.1)
 
-pub verdict-word-spec : {M : Type 1} → statement M
-verdict-word-spec =
+pub verdict_word_spec : {M : Type 1} → statement M
+verdict_word_spec =
     tie.close (tie.spec (λ c. search rules) add-result (λ c. search rules) (λ c. search rules) (λ c. search rules) (λ c. search rules)
     add-result-3 (λ c. search rules) returns returns-2 returns-3 returns-4)

@@ -13,5 +13,5 @@ refusal-word-requires c κs = subst ShortWritten c.before.a2.given.1 c.before.be
 returns-2 : tie.Need-returns-2
 returns-2 c = c.refusal-word.ensures ∙ sym (ap written_word c.before.before.a2.given.1)
 
-pub written-word-spec : {M : Type 1} → statement M
-written-word-spec = tie.close (tie.spec (λ c. search rules) (λ c. search rules) refusal-word-requires (λ c. search rules) returns-2)
+pub written_word_spec : {M : Type 1} → statement M
+written_word_spec = tie.close (tie.spec (λ c. search rules) (λ c. search rules) refusal-word-requires (λ c. search rules) returns-2)

@@ -74,7 +74,7 @@ returns-2 c =
     given-met a.lim a.s.now a.out.now none read _ (counted at_told)
     (at-export.export-marked.ensures (given a.lim a.s.now a.out.now none read _ (counted at_told)))
 
-pub export-spec : {M : Type 1} → statement M
-export-spec =
+pub export_spec : {M : Type 1} → statement M
+export_spec =
     tie.close (tie.spec (λ c. search rules) (λ c. search rules) read-marking-requires (λ c. search rules) (λ c. search rules) (λ c. search rules)
     (λ c. search rules) export-marked-requires returns (λ c. search rules) returns-2)

@@ -35,6 +35,6 @@ returns c w =
     own-numbers start.args.lim start.pre.0 w.program w.asked.kept _ (start.pre.1.1.1 w) start.args.out.now
     (at-write.write-fitting.ensures w)
 
-pub export-marked-spec : {M : Type 1} → statement M
-export-marked-spec =
+pub export_marked_spec : {M : Type 1} → statement M
+export_marked_spec =
     tie.close (tie.spec sum-below-requires write-fitting-requires (λ c. search rules) (λ c. search rules) returns)

@@ -18,5 +18,5 @@ returns c =
     let start = at-limits.before.before.before in
     meets-same at-limits.limits.result plain start.args.s.now start.args.out.now at-limits.limits.ensures at-export.export.ensures
 
-pub export-plain-spec : {M : Type 1} → statement M
-export-plain-spec = tie.close (tie.spec (λ c κs. search rules) export-requires (λ c. search rules) returns)
+pub export_plain_spec : {M : Type 1} → statement M
+export_plain_spec = tie.close (tie.spec (λ c κs. search rules) export-requires (λ c. search rules) returns)

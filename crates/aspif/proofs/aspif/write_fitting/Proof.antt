@@ -48,6 +48,6 @@ returns-2 c w =
     let fits = roomy start.pre.0 w start.args.bits.now _ (start.pre.1.1.1 w) (wide at-write.before) in
     text-met start.args.bits.now w.program start.args.out.now _ _ fits.asked.fits (at-write.write-text.ensures fits)
 
-pub write-fitting-spec : {M : Type 1} → statement M
-write-fitting-spec =
+pub write_fitting_spec : {M : Type 1} → statement M
+write_fitting_spec =
     tie.close (tie.spec room-for-requires write-measured-requires (λ c. search rules) returns write-text-requires (λ c. search rules) returns-2)

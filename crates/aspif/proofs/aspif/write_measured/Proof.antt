@@ -38,5 +38,5 @@ returns-2 c w =
     text-met a.bits.now w.program a.out.now _ _ (omega (arith, long, at-if.if1.false))
     (at-write.write-text.ensures (measured-fits w (omega (arith, long, at-if.if1.false))))
 
-pub write-measured-spec : {M : Type 1} → statement M
-write-measured-spec = tie.close (tie.spec measure-text-requires returns write-text-requires (λ c. search rules) returns-2)
+pub write_measured_spec : {M : Type 1} → statement M
+write_measured_spec = tie.close (tie.spec measure-text-requires returns write-text-requires (λ c. search rules) returns-2)

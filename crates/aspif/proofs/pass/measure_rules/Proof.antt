@@ -83,8 +83,8 @@ returns c w =
     let made = along-end (at-loop.loop.invariant w) c.if1.false in
     record { long = made.long; short = omega (arith, made.short, opens at-loop) }
 
-pub measure-rules-spec : {M : Type 1} → statement M
-measure-rules-spec =
+pub measure_rules_spec : {M : Type 1} → statement M
+measure_rules_spec =
     tie.close (tie.spec invariant-loop decreases-loop (λ c. pass-start c.before.before.before.args.s.now _ (measured-start c.before.before.before.args.bits.now))
     (λ c. omega (arith, opens c.before)) (λ c. omega (arith, opens c.before.before)) (λ c. omega (arith, opens c.before.before))
     (λ c. search rules) measure-rule-requires add_total (λ c κs. omega (arith, (next c.before).whole))

@@ -86,7 +86,7 @@ returns c =
     let numbered = (numbers_of at-lines.before).number-rules.ensures in
     (numbered.0, made-wrote a.bits.now a.part.now _ a.rules numbered.1 at-lines.put-lines.ensures a.to at_copy.copy.ensures)
 
-pub write-block-spec : {M : Type 1} → statement M
-write-block-spec =
+pub write_block_spec : {M : Type 1} → statement M
+write_block_spec =
     tie.close (tie.spec number-rules-requires put-lines-requires copy-requires add-end (λ c. search rules) (λ c. search rules) (λ c. search rules)
     (λ c. search rules) returns)

@@ -122,8 +122,8 @@ loop-again c =
 returns : tie.Need-returns invariant-loop decreases-loop
 returns c w = written_all (here c.before w) c.loop-test.false w.asked.counted.count
 
-pub write-blocks-spec : {M : Type 1} → statement M
-write-blocks-spec =
+pub write_blocks_spec : {M : Type 1} → statement M
+write_blocks_spec =
     tie.close (tie.spec invariant-loop decreases-loop
     (λ c. let slices = c.before.before.before.before in let a = slices.before.before.before.before.args in
     (refl, refl, refl, refl, pass-start a.s.now _ (written_none a.bits.now a.out.now a.to a.rules)))

@@ -19,7 +19,7 @@ write-blocks-requires c κs =
     let p = slices.before.before.before.pre in
     (p.0, (p.1, (at_table.fill-table.ensures, (length-replicate {A = ℕ} 512 0, (length-replicate {A = ℕ} 512 0, length-replicate {A = ℕ} 6384 0)))))
 
-pub write-rules-spec : {M : Type 1} → statement M
-write-rules-spec =
+pub write_rules_spec : {M : Type 1} → statement M
+write_rules_spec =
     tie.close (tie.spec (λ c. search rules) (λ c κs. search rules) (λ c. search rules) (λ c. search rules) (λ c. search rules) (λ c. search rules)
     write-blocks-requires (λ c. search rules) (λ c. search rules))

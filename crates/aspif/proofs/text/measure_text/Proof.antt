@@ -54,7 +54,7 @@ returns c w =
       at-negations.measure-names2.ensures.long,
     )
 
-pub measure-text-spec : {M : Type 1} → statement M
-measure-text-spec =
+pub measure_text_spec : {M : Type 1} → statement M
+measure_text_spec =
     tie.close (tie.spec (λ c κs. c.before.before.before.requires) (λ c κs. (start_of c).requires.1) (λ c κs. (start_of c.before).requires.1) add-names add-result
     (λ c κs. (start_of c.before.before).requires.1) add-result-2 add-result-3 returns)

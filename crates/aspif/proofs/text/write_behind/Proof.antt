@@ -41,5 +41,5 @@ returns c =
     behind-wrote start.args.bits.now start.args.to _ _ _ (omega (arith, start.pre.1)) at-pairs.write-pairs.ensures
     at_Names.write-names.ensures at-negations.write-names2.ensures
 
-pub write-behind-spec : {M : Type 1} → statement M
-write-behind-spec = tie.close (tie.spec write-pairs-requires write-names-requires write-names-requires-2 (λ c. search rules) returns)
+pub write_behind_spec : {M : Type 1} → statement M
+write_behind_spec = tie.close (tie.spec write-pairs-requires write-names-requires write-names-requires-2 (λ c. search rules) returns)

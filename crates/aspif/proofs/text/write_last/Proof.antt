@@ -13,5 +13,5 @@ returns : tie.Need-returns
 unfolding last_line
 returns c = record { bytes = two-sets-write c.args.out.now c.args.to 0x30 line_end c.requires; next = refl }
 
-pub write-last-spec : {M : Type 1} → statement M
-write-last-spec = tie.close (tie.spec (λ c. search rules) (λ c. search rules) (λ c. simp length-set (omega arith)) (λ c. search rules) (λ c. search rules) returns)
+pub write_last_spec : {M : Type 1} → statement M
+write_last_spec = tie.close (tie.spec (λ c. search rules) (λ c. search rules) (λ c. simp length-set (omega arith)) (λ c. search rules) (λ c. search rules) returns)

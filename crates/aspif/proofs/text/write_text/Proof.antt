@@ -63,7 +63,7 @@ returns c w =
     text-wrote (start_of at_first.before).args.bits.now w.program _ _ _ at_first.write-first.ensures
     (at-rules.write-rules.ensures (rules-fit w _ at_first.write-first.kept.0)) at-behind.write-behind.ensures at_last.write-last.ensures
 
-pub write-text-spec : {M : Type 1} → statement M
-write-text-spec =
+pub write_text_spec : {M : Type 1} → statement M
+write_text_spec =
     tie.close (tie.spec (λ c κs. omega (arith, room c)) write-rules-requires write-behind-requires write-last-requires (λ c. search rules)
     returns)

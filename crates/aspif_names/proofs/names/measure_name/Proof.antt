@@ -12,6 +12,6 @@ returns c =
     let a = start.args in
     name-measured a.negated a.a a.n _ _ start.requires at-figures.count-figures.ensures c.measure-field.ensures
 
-pub measure-name-spec : {M : Type 1} → statement M
-measure-name-spec =
+pub measure_name_spec : {M : Type 1} → statement M
+measure_name_spec =
     tie.close (tie.spec (λ c κs. search rules) (λ c. search rules) (λ c κs. search rules) (λ c. search rules) returns)

@@ -41,7 +41,7 @@ returns-2 c =
     (name-none a.bits.now a.negated a.a (at_row.pick-row.result + a.a) (omega (arith, at_row.pick-row.ensures))
     (sym c.before.is-marked.ensures ∙ c.if1.false))
 
-pub measure-name-at-spec : {M : Type 1} → statement M
-measure-name-at-spec =
+pub measure_name_at_spec : {M : Type 1} → statement M
+measure_name_at_spec =
     tie.close (tie.spec (λ c κs. search rules) (λ c. omega (arith, within c))
     (λ c κs. omega (arith, within c, c.before.before.before.requires.1.whole)) number-at-requires (λ c κs. search rules) returns returns-2)

@@ -13,5 +13,5 @@ returns-2 : tie.Need-returns-2
 unfolding letter_of
 returns-2 c = ap letter_of (sym c.if1.false)
 
-pub pick-letter-spec : {M : Type 1} → statement M
-pick-letter-spec = tie.close (tie.spec returns returns-2)
+pub pick_letter_spec : {M : Type 1} → statement M
+pick_letter_spec = tie.close (tie.spec returns returns-2)

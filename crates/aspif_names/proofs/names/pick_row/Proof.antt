@@ -13,5 +13,5 @@ returns-2 : tie.Need-returns-2
 unfolding row_from
 returns-2 c = ap row_from (sym c.if1.false)
 
-pub pick-row-spec : {M : Type 1} → statement M
-pick-row-spec = tie.close (tie.spec returns returns-2)
+pub pick_row_spec : {M : Type 1} → statement M
+pick_row_spec = tie.close (tie.spec returns returns-2)

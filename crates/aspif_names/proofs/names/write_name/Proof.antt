@@ -79,8 +79,8 @@ returns c =
     at-letter.before.pick-letter.ensures at-line.put_byte.ensures at_long.put_word.ensures at-letter.put-word2.ensures
     at-atom.write-decimal.ensures at_count.put-word3.ensures at-number.write-field.ensures at-end.put-end.ensures
 
-pub write-name-spec : {M : Type 1} → statement M
-write-name-spec =
+pub write_name_spec : {M : Type 1} → statement M
+write_name_spec =
     tie.close (tie.spec (λ c κs. search rules) (λ c. search rules) put-byte-requires (λ c. search rules) (λ c. search rules) (λ c. search rules)
     put-word-requires (λ c κs. search rules) put-word-requires-2 write-decimal-requires put-word-requires-3 write-field-requires
     put-end-requires (λ c. search rules) returns)

@@ -55,8 +55,8 @@ returns-2 c =
     (sym c.before.is-marked.ensures ∙ c.if1.false))
     a.out.now a.to
 
-pub write-name-at-spec : {M : Type 1} → statement M
-write-name-at-spec =
+pub write_name_at_spec : {M : Type 1} → statement M
+write_name_at_spec =
     tie.close (tie.spec (λ c κs. search rules) (λ c. omega (arith, within c))
     (λ c κs. omega (arith, within c, c.before.before.before.before.requires.1.0.whole)) number-at-requires write-name-requires
     (λ c. search rules) returns returns-2)

@@ -42,7 +42,7 @@ loop-again c = filling-next (loop-of c).loop.invariant (more c) c.before.before.
 returns : tie.Need-returns invariant-loop decreases-loop
 returns c = filling-end c.before.loop.invariant c.loop-test.false
 
-pub write-names-spec : {M : Type 1} → statement M
-write-names-spec =
+pub write_names_spec : {M : Type 1} → statement M
+write_names_spec =
     tie.close (tie.spec invariant-loop decreases-loop loop-holds write-name-at-requires (λ c. omega (arith, (loop-of c).loop.invariant.row))
     (λ c. omega (arith, more c)) (λ c. omega (arith, more c)) loop-again (λ c. c.before.loop.invariant.writing.same) returns)

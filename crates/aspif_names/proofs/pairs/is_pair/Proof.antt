@@ -19,5 +19,5 @@ returns-2 c =
     let a = at-atom.before.before.args in
     c.if1.false ∙ both-none a.bits.now a.a (sym at-atom.is-marked.ensures ∙ c.if1.false)
 
-pub is-pair-spec : {M : Type 1} → statement M
-is-pair-spec = tie.close (tie.spec (λ c κs. search rules) (λ c. search rules) (λ c κs. search rules) returns returns-2)
+pub is_pair_spec : {M : Type 1} → statement M
+is_pair_spec = tie.close (tie.spec (λ c κs. search rules) (λ c. search rules) (λ c κs. search rules) returns returns-2)

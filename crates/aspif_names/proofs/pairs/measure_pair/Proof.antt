@@ -11,6 +11,6 @@ returns c =
     let a = at_first.before.args in
     pair-measured a.n a.m _ _ at_first.measure-field.ensures c.measure-field2.ensures
 
-pub measure-pair-spec : {M : Type 1} → statement M
-measure-pair-spec =
+pub measure_pair_spec : {M : Type 1} → statement M
+measure_pair_spec =
     tie.close (tie.spec (λ c κs. search rules) (λ c. search rules) (λ c κs. search rules) (λ c. search rules) returns)

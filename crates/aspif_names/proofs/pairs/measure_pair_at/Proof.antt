@@ -25,7 +25,7 @@ returns-2 c =
     let a = at_pair.before.before.before.args in
     long-none (pair-none a.bits.now a.a (sym at_pair.is-pair.ensures ∙ c.if1.false))
 
-pub measure-pair-at-spec : {M : Type 1} → statement M
-measure-pair-at-spec =
+pub measure_pair_at_spec : {M : Type 1} → statement M
+measure_pair_at_spec =
     tie.close (tie.spec (λ c κs. search rules) (λ c κs. search rules) (λ c. search rules) (λ c κs. search rules) (λ c κs. search rules)
     returns returns-2)

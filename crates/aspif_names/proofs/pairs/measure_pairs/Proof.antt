@@ -32,7 +32,7 @@ loop-again c = measuring-next c.before.before.loop.invariant c.before.loop-test.
 returns : tie.Need-returns invariant-loop decreases-loop
 returns c = measuring-end c.before.loop.invariant c.loop-test.false
 
-pub measure-pairs-spec : {M : Type 1} → statement M
-measure-pairs-spec =
+pub measure_pairs_spec : {M : Type 1} → statement M
+measure_pairs_spec =
     tie.close (tie.spec invariant-loop decreases-loop loop-holds measure-pair-at-requires add_total (λ c. omega (arith, c.before.before.loop.invariant.row))
     (λ c. omega (arith, c.before.loop-test.true)) (λ c. omega (arith, c.before.loop-test.true)) loop-again returns)

@@ -76,7 +76,7 @@ returns c =
     at-weights.put-word3.ensures at_count.put-word4.ensures at_first.write-field.ensures at_second.write-field2.ensures
     at-end.put-end.ensures
 
-pub write-pair-spec : {M : Type 1} → statement M
-write-pair-spec =
+pub write_pair_spec : {M : Type 1} → statement M
+write_pair_spec =
     tie.close (tie.spec put-byte-requires (λ c. search rules) put-word-requires put-word-requires-2 put-word-requires-3 put-word-requires-4
     write-field-requires write-field-requires-2 put-end-requires (λ c. search rules) returns)

@@ -39,7 +39,7 @@ returns-2 c =
     let a = at_pair.before.before.before.before.args in
     wrote_none (pair-none a.bits.now a.a (sym at_pair.is-pair.ensures ∙ c.if1.false)) a.out.now a.to
 
-pub write-pair-at-spec : {M : Type 1} → statement M
-write-pair-at-spec =
+pub write_pair_at_spec : {M : Type 1} → statement M
+write_pair_at_spec =
     tie.close (tie.spec (λ c κs. search rules) (λ c κs. search rules) (λ c. search rules) (λ c κs. search rules) write-pair-requires
     (λ c. search rules) returns returns-2)

@@ -41,7 +41,7 @@ loop-again c = filling-next (loop-of c).loop.invariant (more c) c.before.before.
 returns : tie.Need-returns invariant-loop decreases-loop
 returns c = filling-end c.before.loop.invariant c.loop-test.false
 
-pub write-pairs-spec : {M : Type 1} → statement M
-write-pairs-spec =
+pub write_pairs_spec : {M : Type 1} → statement M
+write_pairs_spec =
     tie.close (tie.spec invariant-loop decreases-loop loop-holds write-pair-at-requires (λ c. omega (arith, (loop-of c).loop.invariant.row))
     (λ c. omega (arith, more c)) (λ c. omega (arith, more c)) loop-again (λ c. c.before.loop.invariant.writing.same) returns)

@@ -34,8 +34,8 @@ returns c =
     let at-loop = c.before in
     finishing-end at-loop.loop.invariant.1 at-loop.before.args.count (omega (arith, c.loop-test.false))
 
-pub finish-numbers-spec : {M : Type 1} → statement M
-finish-numbers-spec =
+pub finish_numbers_spec : {M : Type 1} → statement M
+finish_numbers_spec =
     tie.close (tie.spec invariant-loop decreases-loop (λ c. (omega arith, finishing-start c.args.masks.now c.args.numbers.now)) (λ c. search rules)
     (λ c. search rules) (λ c. search rules) (λ c. search rules) (λ c. omega (arith, low c)) (λ c. omega (arith, low c)) (λ c. search rules)
     (λ c. search rules) (λ c. search rules) (λ c. search rules) (λ c. (search rules, finishing-next (loop-of c).loop.invariant.1 (search rules)))

@@ -69,8 +69,8 @@ loop-again c =
     gathering-next at-loop.loop.inv (more c.before) p.1.1.0 p.1.1.1 p.0 start.args.counts.now p.1.0 _
     at_place.place_at.ensures _ c.before.single-at.ensures
 
-pub gather-run-spec : {M : Type 1} → statement M
-gather-run-spec =
+pub gather_run_spec : {M : Type 1} → statement M
+gather_run_spec =
     tie.close (tie.spec invariant-loop decreases-loop loop-holds (λ c κs. omega (arith, c.before.loop.invariant.fits, c.loop-test.true)) (λ c. omega (arith, low c))
     (λ c. omega (arith, low c.before)) (λ c. search rules) (λ c κs. search rules)
     (λ c. omega (arith, c.single-at.ensures, pow_pos (c.before.before.place_at.result % 64))) (λ c. omega (arith, in-masks c)) (λ c. in-masks c)

@@ -135,8 +135,8 @@ returns c =
     numbering-end at-loop.loop.inv (start_of at-loop).pre.0 at-end.loop-test.left (room at-end).1 _
     at-finish.finish-numbers.kept.1.0 at-finish.finish-numbers.ensures
 
-pub number-rules-spec : {M : Type 1} → statement M
-number-rules-spec =
+pub number_rules_spec : {M : Type 1} → statement M
+number_rules_spec =
     tie.close (tie.spec invariant-loop decreases-loop loop-holds (λ c. omega (arith, (next c).ranges)) (λ c. omega (arith, (next c).ranges)) (λ c. search rules)
     (λ c. omega (arith, (next c.before.before).whole)) (λ c. omega (arith, (next c.before.before.before).whole))
     (λ c. omega (arith, (next c.before.before.before.before).whole)) (λ c κs. search rules) gather-run-requires add-k

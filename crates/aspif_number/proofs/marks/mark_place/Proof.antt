@@ -25,8 +25,8 @@ returns c =
     rw c.single-at.ensures
     (gained-place bits a.i start.requires.0, tallied-place bits a.i start.requires.0 a.counts.now start.requires.1 _ at-is-in.is-in.ensures)
 
-pub mark-place-spec : {M : Type 1} → statement M
-mark-place-spec =
+pub mark_place_spec : {M : Type 1} → statement M
+mark_place_spec =
     tie.close (tie.spec (λ c. search rules) (λ c. search rules) (λ c. search rules) (λ c κs. search rules) (λ c. search rules) (λ c. search rules)
     (λ c. search rules) add-counts (λ c. search rules) (λ c κs. search rules) (λ c. search rules) (λ c. search rules) (λ c. search rules)
     (λ c. search rules) returns)

@@ -39,8 +39,8 @@ returns c =
     let p = (start_of c).requires in
     (omega (arith, counted c), omega (arith, counted c, few c, p.0, p.1.0))
 
-pub number-at-spec : {M : Type 1} → statement M
-number-at-spec =
+pub number_at_spec : {M : Type 1} → statement M
+number_at_spec =
     tie.close (tie.spec (λ c. search rules) (λ c κs. search rules) sub-below (λ c. search rules)
     (λ c. search rules) (λ c. search rules) (λ c. search rules)
     (λ c. omega (arith, counted c, few c, (start_of c).requires.0, (start_of c).requires.1.0))

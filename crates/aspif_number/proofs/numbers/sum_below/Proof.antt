@@ -17,5 +17,5 @@ returns c =
     let at_bits = at_sum.before.before.before in
     sums-summed _ _ at_bits.before.requires.1 (λ w. (at_bits.shared-slice-known.given w).fits) _ at_sum.sum-counts.ensures
 
-pub sum-below-spec : {M : Type 1} → statement M
-sum-below-spec = tie.close (tie.spec sum-counts-requires (λ c. search rules) returns)
+pub sum_below_spec : {M : Type 1} → statement M
+sum_below_spec = tie.close (tie.spec sum-counts-requires (λ c. search rules) returns)

@@ -32,7 +32,7 @@ returns c =
     let at-loop = c.before in
     summing-end at-loop.loop.invariant (omega (arith, c.loop-test.false, at-loop.loop.invariant.same))
 
-pub sum-counts-spec : {M : Type 1} → statement M
-sum-counts-spec =
+pub sum_counts_spec : {M : Type 1} → statement M
+sum_counts_spec =
     tie.close (tie.spec invariant-loop decreases-loop (λ c. summing_start c.args.counts.now) (λ c. search rules) (λ c. search rules) (λ c. search rules)
     (λ c. search rules) add-sum (λ c. search rules) (λ c. omega (arith, more c)) loop-again (λ c. c.before.loop.invariant.same) returns)

@@ -20,6 +20,6 @@ returns-3 : tie.Need-returns-3
 returns-3 c =
     let a = c.before.before.args in omega (arith, row_last a.kind a.tag (omega (arith, c.if2.false, c.before.if1.false)))
 
-pub pick-row-spec : {M : Type 1} → statement M
-pick-row-spec =
+pub pick_row_spec : {M : Type 1} → statement M
+pick_row_spec =
     tie.close (tie.spec (λ c. search rules) (λ c. search rules) (λ c. search rules) (λ c. search rules) (λ c. search rules) returns returns-2 returns-3)

@@ -36,7 +36,7 @@ returns c =
     let a = (start_of c).args in
     omega (arith, row c, c.before.before.get-number2.ensures, place_in a.s.now a.at)
 
-pub place-at-spec : {M : Type 1} → statement M
-place-at-spec =
+pub place_at_spec : {M : Type 1} → statement M
+place_at_spec =
     tie.close (tie.spec (λ c. search rules) (λ c κs. search rules) (λ c. search rules) (λ c κs. search rules) (λ c. search rules)
     (λ c κs. search rules) (λ c. search rules) (λ c. omega (arith, near c)) (λ c. search rules) (λ c. omega (arith, near c)) returns)

@@ -53,8 +53,8 @@ returns-3 c =
       (right-marked a.lim a.t.now _ (counted at_count) a.bits.now _ (made.1.0 right), made.1.1),
     )
 
-pub mark-body-spec : {M : Type 1} → statement M
-mark-body-spec =
+pub mark_body_spec : {M : Type 1} → statement M
+mark_body_spec =
     tie.close (tie.spec (λ c. search rules) (λ c. search rules) (λ c. search rules) (λ c κs. search rules) (λ c. search rules) (λ c. search rules)
     (λ c κs. search rules) returns (λ c κs. search rules) (λ c. search rules) (λ c. search rules) (λ c. search rules) returns-2 (λ c. search rules)
     (λ c. search rules) (λ c. search rules) returns-3)

@@ -100,8 +100,8 @@ returns-2 c =
     let m = c.before.loop.invariant in
     (sym (marking-right m c.loop-test.false), ((λ right. marking-gained m c.loop-test.false), m.tallied))
 
-pub mark-literals-spec : {M : Type 1} → statement M
-mark-literals-spec =
+pub mark_literals_spec : {M : Type 1} → statement M
+mark_literals_spec =
     tie.close (tie.spec invariant-loop decreases-loop loop-holds (λ c. omega (arith, c.before.loop.invariant.fits)) (λ c. omega (arith, c.before.loop.invariant.fits))
     (λ c. search rules) (λ c κs. search rules) (λ c. (loop-of c.before).loop.inv.same) (λ c. same-counts (loop-of c.before)) returns
     place-at-requires mark-place-requires (λ c. omega (arith, (passed c).loop.invariant.fits, more c)) (λ c. omega (arith, more c))

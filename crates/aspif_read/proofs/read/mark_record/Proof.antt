@@ -59,7 +59,7 @@ returns-3 c =
     let step = record-unmarked a.lim a.held a.t.now other.whole (other-unmarked a.lim a.t.now other start.pre.1.1.0) in
     (c.refuse.ensures ∙ sym step, (refused-marked a.t.now a.bits.now a.bits.now _ _ c.refuse.ensures, start.pre.1.1.1.1))
 
-pub mark-record-spec : {M : Type 1} → statement M
-mark-record-spec =
+pub mark_record_spec : {M : Type 1} → statement M
+mark_record_spec =
     tie.close (tie.spec (λ c κs. search rules) (λ c. search rules) (λ c. search rules) mark-body-requires (λ c. search rules) (λ c κs. search rules) returns
     (λ c. search rules) (λ c. search rules) returns-2 returns-3)

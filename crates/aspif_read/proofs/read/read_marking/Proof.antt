@@ -157,8 +157,8 @@ returns-3 c =
       ((λ n counted w. let z : ◌≡◌ {A = ℕ} 0 1 = cc in absurd (omega (arith, z))), made.1.1),
     )
 
-pub read-marking-spec : {M : Type 1} → statement M
-read-marking-spec =
+pub read_marking_spec : {M : Type 1} → statement M
+read_marking_spec =
     tie.close (tie.spec invariant-loop decreases-loop returns loop-holds (λ c. search rules) (λ c. search rules) (λ c. search rules) mark-record-requires
     hold-requires (λ c. search rules) (λ c. omega (arith, sized c)) (λ c. omega (arith, sized c)) loop-again (λ c. search rules)
     (λ c. search rules) (λ c. search rules) returns-2 (λ c. search rules) add-t25 same-length-3 same-length-4 returns-3)

@@ -8,5 +8,5 @@ use Rattle.aspif_rule.proofs.fields.measure_field.Tie as tie
 returns : tie.Need-returns
 returns c = measured c.before.args.n c.count-figures.result c.count-figures.ensures
 
-pub measure-field-spec : {M : Type 1} → statement M
-measure-field-spec = tie.close (tie.spec (λ c κs. search rules) (λ c. search rules) returns)
+pub measure_field_spec : {M : Type 1} → statement M
+measure_field_spec = tie.close (tie.spec (λ c κs. search rules) (λ c. search rules) returns)

@@ -49,7 +49,7 @@ loop-again c =
 returns : tie.Need-returns invariant-loop decreases-loop
 returns c = measuring-end c.before.loop.invariant c.loop-test.false
 
-pub measure-run-spec : {M : Type 1} → statement M
-measure-run-spec =
+pub measure_run_spec : {M : Type 1} → statement M
+measure_run_spec =
     tie.close (tie.spec invariant-loop decreases-loop loop-holds place-at-requires number-at-requires (λ c κs. search rules) add_total
     (λ c. omega (arith, (loop-of c).loop.invariant.rest.fits, more c)) (λ c. omega (arith, more c)) (λ c. omega (arith, more c)) loop-again returns)

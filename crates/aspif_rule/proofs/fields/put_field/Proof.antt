@@ -65,8 +65,8 @@ returns-3 c =
       omega (arith, many-few n _ few packed),
     )
 
-pub put-field-spec : {M : Type 1} → statement M
-put-field-spec =
+pub put_field_spec : {M : Type 1} → statement M
+put_field_spec =
     tie.close (tie.spec write-field-requires (λ c. search rules) returns (λ c κs. search rules) mul-put-eight add-put-eight (λ c κs. search rules)
     (λ c. search rules) (λ c. search rules) (λ c. search rules) returns-2 (λ c. search rules) (λ c. search rules) (λ c κs. search rules)
     (λ c. search rules) (λ c. search rules) (λ c. search rules) returns-3)

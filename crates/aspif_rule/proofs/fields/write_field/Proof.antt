@@ -52,7 +52,7 @@ returns-2 c =
     let a = start.args in
     positive-wrote a.naf a.n a.at _ at-if.if1.false start.requires at-put.put_byte.ensures c.before.before.write-decimal2.ensures
 
-pub write-field-spec : {M : Type 1} → statement M
-write-field-spec =
+pub write_field_spec : {M : Type 1} → statement M
+write_field_spec =
     tie.close (tie.spec put-byte-requires (λ c. search rules) put-byte-requires-2 (λ c. search rules) write-decimal-requires (λ c. search rules)
     returns (λ c. search rules) write-decimal-requires-2 (λ c. search rules) returns-2)

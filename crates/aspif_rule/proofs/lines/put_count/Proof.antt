@@ -15,7 +15,7 @@ returns c =
     let w = at-word.put_word.ensures in
     (figure-begun a.at a.n _ at-if.if1.true (omega (arith, start.requires.1)) w, omega (arith, w.next))
 
-pub put-count-spec : {M : Type 1} → statement M
-put-count-spec =
+pub put_count_spec : {M : Type 1} → statement M
+put_count_spec =
     tie.close (tie.spec (λ c. search rules) (λ c. search rules) (λ c κs. search rules) (λ c. search rules) returns (λ c κs. search rules)
     (λ c. search rules) (λ c. search rules))

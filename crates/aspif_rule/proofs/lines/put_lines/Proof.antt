@@ -92,8 +92,8 @@ loop-again c =
 returns : tie.Need-returns invariant-loop decreases-loop
 returns c = let inv = c.before.loop.invariant in (lined-all inv.1 inv.0 c.loop-test.false).begun
 
-pub put-lines-spec : {M : Type 1} → statement M
-put-lines-spec =
+pub put_lines_spec : {M : Type 1} → statement M
+put_lines_spec =
     tie.close (tie.spec invariant-loop decreases-loop loop-holds (λ c. omega (arith, (ahead c).within)) (λ c. omega (arith, (ahead c).within))
     (λ c. omega (arith, (ahead c).within)) put-line-requires (λ c. omega (arith, (ahead (test_of c.before)).whole))
     (λ c. omega (arith, (ahead (test_of c.before.before)).whole)) (λ c. omega (arith, (ahead (test_of c.before.before.before)).whole))

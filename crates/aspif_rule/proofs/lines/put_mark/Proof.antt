@@ -13,7 +13,7 @@ use Rattle.aspif_rule.proofs.lines.put_mark.Tie as tie
 returns : tie.Need-returns
 returns c = simp towards_suc (sets-write c.args.text.now c.args.to (0x31 ∷ blank ∷ 0x30 ∷ []) c.requires)
 
-pub put-mark-spec : {M : Type 1} → statement M
-put-mark-spec =
+pub put_mark_spec : {M : Type 1} → statement M
+put_mark_spec =
     tie.close (tie.spec (λ c. search rules) (λ c. search rules) (λ c. simp length-set (omega arith)) (λ c. search rules)
     (λ c. simp length-set (omega arith)) (λ c. search rules) returns)

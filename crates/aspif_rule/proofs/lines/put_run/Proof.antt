@@ -40,7 +40,7 @@ returns c =
     let all = filled-all inv.1 inv.0 c.loop-test.false in
     (all.begun, all.short)
 
-pub put-run-spec : {M : Type 1} → statement M
-put-run-spec =
+pub put_run_spec : {M : Type 1} → statement M
+put_run_spec =
     tie.close (tie.spec invariant-loop decreases-loop loop-holds (λ c. search rules) (λ c. search rules) (λ c. search rules) (λ c κs. search rules)
     (λ c. search rules) (λ c. search rules) loop-again (λ c. c.before.loop.invariant.1.begun.same) returns)

@@ -18,7 +18,7 @@ returns c =
       short = omega (arith, first.short, second.short);
     }
 
-pub measure-counts-spec : {M : Type 1} → statement M
-measure-counts-spec =
+pub measure_counts_spec : {M : Type 1} → statement M
+measure_counts_spec =
     tie.close (tie.spec (λ c κs. search rules) (λ c κs. search rules) (λ c κs. search rules) (λ c. search rules) (λ c. search rules)
     (λ c. search rules) returns)

@@ -31,7 +31,7 @@ returns c =
     let a = (start_of at_count).args in
     counted-long a.bits.now a.part.now _ _ _ at_count.count-literals.ensures.0 at-counts.measure-counts.ensures c.measure-run.ensures
 
-pub measure-rule-spec : {M : Type 1} → statement M
-measure-rule-spec =
+pub measure_rule_spec : {M : Type 1} → statement M
+measure_rule_spec =
     tie.close (tie.spec (λ c. search rules) (λ c. search rules) (λ c. search rules) (λ c κs. search rules) (λ c κs. search rules) measure-run-requires
     add-result returns)

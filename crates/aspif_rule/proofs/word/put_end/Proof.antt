@@ -15,5 +15,5 @@ returns c =
     let a = at-put.before.before.before.args in
     wrote a.at (line_end ∷ []) (a.at + 1) at-put.put_byte.ensures refl
 
-pub put-end-spec : {M : Type 1} → statement M
-put-end-spec = tie.close (tie.spec (λ c κs. search rules) (λ c. search rules) (λ c. search rules) returns)
+pub put_end_spec : {M : Type 1} → statement M
+put_end_spec = tie.close (tie.spec (λ c κs. search rules) (λ c. search rules) (λ c. search rules) returns)

@@ -19,6 +19,6 @@ returns c =
     wrote_then (omega (arith, start.requires)) (wrote a.at (blank ∷ []) (a.at + 1) at_first.put_byte.ensures refl)
     (wrote (a.at + 1) (a.b ∷ []) (a.at + 2) at_second.put-byte2.ensures (omega arith))
 
-pub put-word-spec : {M : Type 1} → statement M
-put-word-spec =
+pub put_word_spec : {M : Type 1} → statement M
+put_word_spec =
     tie.close (tie.spec (λ c κs. search rules) (λ c. search rules) (λ c κs. search rules) (λ c. search rules) (λ c. search rules) returns)

@@ -65,7 +65,7 @@ returns-3 c =
     let w = active-state source assemblable-source a.state.now (bytes said) said.inspect_source.result (standing said) (not-false _ at-if.if1.false) in
     refused-meets _ _ _ _ _ (add-refused source assemblable-source _ _ _ _ w a.rule.now _ (size-refused _ _ (sym (read at_read) ∙ at-refused.read2.given.1))) refl
 
-pub add-record-spec : {M : Type 1} → statement M
-add-record-spec =
+pub add_record_spec : {M : Type 1} → statement M
+add_record_spec =
     tie.close (tie.spec (λ c κs. search rules) (λ c κs. search rules) (λ c. search rules) returns (λ c κs. search rules) (λ c κs. search rules)
     (λ c. search rules) hold-record-requires (λ c. search rules) (λ c. search rules) (λ c. search rules) returns-2 (λ c. search rules) returns-3)

@@ -62,7 +62,7 @@ returns-3 c =
     ∙ ap (λ st. record { answer = Reading.Count 0; state = st; buffer = a.out.now })
     (sym (at_open.open-state.ensures ∙ ap (λ F. encoded_stage F (opened [])) at-limits.limits.ensures)))
 
-pub begin-state-spec : {M : Type 1} → statement M
-begin-state-spec =
+pub begin_state_spec : {M : Type 1} → statement M
+begin_state_spec =
     tie.close (tie.spec (λ c κs. search rules) mul-if1 add-if1 (λ c κs. search rules) returns (λ c κs. search rules) returns-2 open-state-requires
     (λ c. search rules) returns-3)

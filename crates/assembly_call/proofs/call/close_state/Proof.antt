@@ -67,7 +67,7 @@ returns-3 c =
     (close-held source assemblable-source _ _ _ _ (active at-if2.before) at-if2.if2.false
     ∙ ap₂ (λ (x y : List ℕ). record { answer = Reading.Count h.rules; state = x; buffer = y }) (sym at-put.put_byte.ensures) (sym at-end.write-end.ensures))
 
-pub close-state-spec : {M : Type 1} → statement M
-close-state-spec =
+pub close_state_spec : {M : Type 1} → statement M
+close_state_spec =
     tie.close (tie.spec (λ c κs. search rules) (λ c κs. search rules) (λ c. search rules) returns add-if2 (λ c κs. search rules)
     (λ c. search rules) returns-2 cast-write-end (λ c κs. search rules) put-byte-requires (λ c. search rules) (λ c. search rules) returns-3)

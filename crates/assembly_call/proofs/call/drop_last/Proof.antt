@@ -76,7 +76,7 @@ returns-3 c =
     ∙ ap (λ (x : List ℕ). record { answer = Reading.Count (h.rules - 1); state = x; buffer = [] })
     (sym (at-put.put-shape.ensures ∙ ap (λ (F : Limits). with_shape F st (h.rules - 1) (h.rules - 1) 0 0) at-limits.limits.ensures)))
 
-pub drop-last-spec : {M : Type 1} → statement M
-drop-last-spec =
+pub drop_last_spec : {M : Type 1} → statement M
+drop_last_spec =
     tie.close (tie.spec (λ c κs. search rules) (λ c κs. search rules) (λ c. search rules) returns (λ c κs. search rules)
     (λ c. search rules) returns-2 (λ c. omega (arith, c.if2.false)) (λ c κs. search rules) put-shape-requires (λ c. search rules) returns-3)

@@ -14,5 +14,5 @@ returns c = heads-defeasible _ c.before.if1.true
 returns-2 : tie.Need-returns-2
 returns-2 c = heads-strict _ c.before.if1.false
 
-pub heads-byte-spec : {M : Type 1} → statement M
-heads-byte-spec = tie.close (tie.spec (λ c. search rules) (λ c. search rules) add-result returns (λ c. search rules) returns-2)
+pub heads_byte_spec : {M : Type 1} → statement M
+heads_byte_spec = tie.close (tie.spec (λ c. search rules) (λ c. search rules) add-result returns (λ c. search rules) returns-2)

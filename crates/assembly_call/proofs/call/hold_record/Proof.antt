@@ -107,7 +107,7 @@ returns-2 c =
     ∙ ap₂ (λ (F : Limits) (b : ℕ). with_shape F a.state.now (n + 1) n b (body_byte (shape_of a.rule.now))) at-limits.limits.ensures at-heads.heads-byte.ensures))
     (sym at_copy.copy.ensures))
 
-pub hold-record-spec : {M : Type 1} → statement M
-hold-record-spec =
+pub hold_record_spec : {M : Type 1} → statement M
+hold_record_spec =
     tie.close (tie.spec add-end add-if1 (λ c κs. search rules) returns copy-requires heads-byte-requires read-body read-body-2 add_body add-rules
     (λ c κs. search rules) put-shape-requires (λ c. search rules) (λ c. search rules) returns-2)

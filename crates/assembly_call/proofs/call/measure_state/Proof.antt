@@ -22,5 +22,5 @@ add-result c =
 returns : tie.Need-returns
 returns c = assembled-standing source _ _ (standing c.before)
 
-pub measure-state-spec : {M : Type 1} → statement M
-measure-state-spec = tie.close (tie.spec (λ c κs. search rules) add-result returns)
+pub measure_state_spec : {M : Type 1} → statement M
+measure_state_spec = tie.close (tie.spec (λ c κs. search rules) add-result returns)

@@ -20,5 +20,5 @@ returns c =
     at-put.put_byte.ensures
     ∙ ap (λ st. write st 0 (1 ∷ [])) (at_clear.clear.ensures ∙ ap (λ n. replicate n 0) start.requires) ∙ stage-begun start.args.lim
 
-pub open-state-spec : {M : Type 1} → statement M
-open-state-spec = tie.close (tie.spec (λ c κs. search rules) put-byte-requires (λ c. search rules) returns)
+pub open_state_spec : {M : Type 1} → statement M
+open_state_spec = tie.close (tie.spec (λ c κs. search rules) put-byte-requires (λ c. search rules) returns)

@@ -21,7 +21,7 @@ returns c =
     ∙ ap (λ st. write st (8 + a.lim.rules + a.place) (a.body ∷ []))
     (at_byte.put_byte.ensures ∙ ap (λ st. write st (8 + a.place) (a.heads ∷ [])) at-number.put-number.ensures)
 
-pub put-shape-spec : {M : Type 1} → statement M
-put-shape-spec =
+pub put_shape_spec : {M : Type 1} → statement M
+put_shape_spec =
     tie.close (tie.spec (λ c. search rules) (λ c κs. search rules) (λ c. search rules) (λ c κs. search rules) (λ c. search rules) (λ c. search rules)
     (λ c κs. search rules) (λ c. search rules) returns)

@@ -114,8 +114,8 @@ returns-4 c =
     let tally = tally-of (clear_of at) in
     said _ _ (is-header (count_of tally.before)) (shapes-right (clear_of at).before) (is-clear at) _ (tallied tally) _ (count tally.before)
 
-pub inspect-spec : {M : Type 1} → statement M
-inspect-spec =
+pub inspect_spec : {M : Type 1} → statement M
+inspect_spec =
     tie.close (tie.spec (λ c κs. search rules) (λ c κs. search rules) returns get-number-requires (λ c. search rules) tally-shapes-requires (λ c κs. search rules)
     (λ c κs. search rules) returns-2 is-clear-behind-requires (λ c κs. search rules) returns-3 mul-bytes (λ c. search rules) (λ c. search rules) add-bytes mul-bytes-2
     add-bytes-2 read-stage returns-4)

@@ -15,5 +15,5 @@ returns c =
     let at-limits = c.before in
     c.inspect.ensures ∙ ap (λ F. standing_of (stage_of F at-limits.before.before.args.state.now)) at-limits.limits.ensures
 
-pub inspect-source-spec : {M : Type 1} → statement M
-inspect-source-spec = tie.close (tie.spec (λ c κs. search rules) inspect-requires returns)
+pub inspect_source_spec : {M : Type 1} → statement M
+inspect_source_spec = tie.close (tie.spec (λ c κs. search rules) inspect-requires returns)

@@ -58,7 +58,7 @@ loop-again c =
 returns : tie.Need-returns invariant-loop decreases-loop
 returns c = clearing-end c.before.loop.invariant c.loop-test.false
 
-pub is-clear-behind-spec : {M : Type 1} → statement M
-is-clear-behind-spec =
+pub is_clear_behind_spec : {M : Type 1} → statement M
+is_clear_behind_spec =
     tie.close (tie.spec invariant-loop decreases-loop add_at sub-left loop-holds read-row add-beside read-beside (λ c κs. search rules) (λ c κs. search rules) add-at-2
     (λ c. search rules) (λ c. search rules) loop-again returns)

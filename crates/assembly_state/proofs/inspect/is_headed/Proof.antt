@@ -68,7 +68,7 @@ returns-7 c =
     ∙ sym (headed-begun _ _ at-if1.if1.false at-if2.if2.false at-if3.if3.false (sym at-if4.before.get-number.ensures ∙ at-if4.if4.false)
     (sym at-if5.before.get-number2.ensures ∙ at-if5.if5.false) at-if6.if6.false)
 
-pub is-headed-spec : {M : Type 1} → statement M
-is-headed-spec =
+pub is_headed_spec : {M : Type 1} → statement M
+is_headed_spec =
     tie.close (tie.spec mul-if1 add-if1 returns (λ c. search rules) returns-2 (λ c. search rules) returns-3 (λ c κs. search rules) returns-4
     (λ c κs. search rules) returns-5 (λ c κs. search rules) (λ c. search rules) returns-6 (λ c. search rules) returns-7)

@@ -15,5 +15,5 @@ add-result c = let start = c.before.before.before.before.before in omega (arith,
 returns-2 : tie.Need-returns-2
 returns-2 c = let a = c.before.before.before.before.before.args in sym (heads-right a.lim _ _ c.before.before.if1.false)
 
-pub is-within-spec : {M : Type 1} → statement M
-is-within-spec = tie.close (tie.spec (λ c. search rules) returns (λ c. search rules) add-result returns-2)
+pub is_within_spec : {M : Type 1} → statement M
+is_within_spec = tie.close (tie.spec (λ c. search rules) returns (λ c. search rules) add-result returns-2)

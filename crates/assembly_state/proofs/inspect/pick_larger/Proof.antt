@@ -12,5 +12,5 @@ returns-2 : tie.Need-returns-2
 unfolding larger
 returns-2 c = simp (le-ltb _ _ c.if1.false)
 
-pub pick-larger-spec : {M : Type 1} → statement M
-pick-larger-spec = tie.close (tie.spec returns returns-2)
+pub pick_larger_spec : {M : Type 1} → statement M
+pick_larger_spec = tie.close (tie.spec returns returns-2)

@@ -9,5 +9,5 @@ returns : tie.Need-returns
 unfolding standing_of is_open shapes held_length
 returns c = refl
 
-pub stand-before-spec : {M : Type 1} → statement M
-stand-before-spec = tie.close (tie.spec returns)
+pub stand_before_spec : {M : Type 1} → statement M
+stand_before_spec = tie.close (tie.spec returns)

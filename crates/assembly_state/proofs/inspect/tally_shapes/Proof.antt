@@ -78,7 +78,7 @@ loop-again c =
 returns : tie.Need-returns invariant-loop decreases-loop
 returns c = tallying-end c.before.loop.invariant c.loop-test.false
 
-pub tally-shapes-spec : {M : Type 1} → statement M
-tally-shapes-spec =
+pub tally_shapes_spec : {M : Type 1} → statement M
+tally_shapes_spec =
     tie.close (tie.spec invariant-loop decreases-loop loop-holds read-heads (λ c κs. search rules) add-b read-body (λ c κs. search rules) (λ c κs. search rules)
     (λ c. search rules) add-heads cast-body add_body (λ c. search rules) (λ c. search rules) (λ c. search rules) loop-again returns)

@@ -8,5 +8,5 @@ use Rattle.buffer.proofs.put.put_byte.Tie as tie
 returns : tie.Need-returns
 returns c = set-write c.args.out.now c.args.at c.args.b (search rules)
 
-pub put-byte-spec : {M : Type 1} → statement M
-put-byte-spec = tie.close (tie.spec (λ c. search rules) (λ c. search rules) returns)
+pub put_byte_spec : {M : Type 1} → statement M
+put_byte_spec = tie.close (tie.spec (λ c. search rules) (λ c. search rules) returns)

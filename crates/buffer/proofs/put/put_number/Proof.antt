@@ -11,7 +11,7 @@ use Rattle.buffer.proofs.put.put_number.Tie as tie
 returns : tie.Need-returns
 returns c = two-sets-write c.args.out.now c.args.at (c.args.n / 256) (c.args.n % 256) c.requires
 
-pub put-number-spec : {M : Type 1} → statement M
-put-number-spec =
+pub put_number_spec : {M : Type 1} → statement M
+put_number_spec =
     tie.close (tie.spec (λ c. search rules) (λ c. search rules) (λ c. search rules) (λ c. search rules) (λ c. simp length-set (omega arith))
     (λ c. search rules) returns)

@@ -73,7 +73,7 @@ returns-2 c =
     let l = c.before.loop in
     sym (l.invariant.2 ∙ clash-end a.set.now a.n l.k l.at _ (omega (arith, c.loop-test.false)))
 
-pub find-clash-spec : {M : Type 1} → statement M
-find-clash-spec =
+pub find_clash_spec : {M : Type 1} → statement M
+find_clash_spec =
     tie.close (tie.spec invariant-loop decreases-loop loop-holds (λ c. search rules) (λ c. search rules) (λ c. search rules) is-opposed-requires returns
     (λ c. search rules) (λ c. search rules) (λ c. search rules) loop-again returns-2)

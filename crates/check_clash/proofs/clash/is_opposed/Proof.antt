@@ -31,7 +31,7 @@ returns-2 c =
     ∙ ap (λ (x : SignedAtom). key_set a.set.now a.n (Signed x)) (at-oppose.oppose.ensures ∙ ap opposite atom)
     ∙ sym (opposed-signed a.set.now a.n a.t.now (omega (arith, at_test.if1.false)))
 
-pub is-opposed-spec : {M : Type 1} → statement M
-is-opposed-spec =
+pub is_opposed_spec : {M : Type 1} → statement M
+is_opposed_spec =
     tie.close (tie.spec (λ c. search rules) returns (λ c κs. search rules) (λ c κs. search rules) (λ c κs. search rules)
     (λ c κs. search rules) (λ c κs. search rules) returns-2)

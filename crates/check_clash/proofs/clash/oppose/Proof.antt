@@ -13,5 +13,5 @@ returns-2 : tie.Need-returns-2
 unfolding opposite
 returns-2 c = rw c.before.a2.given.1
 
-pub oppose-spec : {M : Type 1} → statement M
-oppose-spec = tie.close (tie.spec (λ c. search rules) (λ c. search rules) returns returns-2)
+pub oppose_spec : {M : Type 1} → statement M
+oppose_spec = tie.close (tie.spec (λ c. search rules) (λ c. search rules) returns returns-2)

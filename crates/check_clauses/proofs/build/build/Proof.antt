@@ -124,8 +124,8 @@ returns-2 c =
     let at-loop = c.before.before in
     built-whole (set_bytes at-loop) at-loop.loop.invariant.3 at-loop.loop.invariant.2 c.if1.false
 
-pub build-spec : {M : Type 1} → statement M
-build-spec =
+pub build_spec : {M : Type 1} → statement M
+build_spec =
     tie.close (tie.spec invariant-loop decreases-loop
     (λ c. let slices = c.before.before.before in let a = slices.before.args in (
       refl,

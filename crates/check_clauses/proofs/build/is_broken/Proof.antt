@@ -11,5 +11,5 @@ returns c = sym (broken-without c.before.before.args.c c.if1.true)
 returns-2 : tie.Need-returns-2
 returns-2 c = sym (broken-with c.before.before.before.args.c c.before.if1.false)
 
-pub is-broken-spec : {M : Type 1} → statement M
-is-broken-spec = tie.close (tie.spec returns returns-2)
+pub is_broken_spec : {M : Type 1} → statement M
+is_broken_spec = tie.close (tie.spec returns returns-2)

@@ -67,7 +67,7 @@ returns c =
     let l = at-loop.loop in
     sym (l.invariant.1 ∙ positions-end a.set.now a.n a.t.now l.at l.left l.mask c.loop-test.false)
 
-pub mask-heads-spec : {M : Type 1} → statement M
-mask-heads-spec =
+pub mask_heads_spec : {M : Type 1} → statement M
+mask_heads_spec =
     tie.close (tie.spec invariant-loop decreases-loop loop-holds (λ c. search rules) (λ c. search rules) (λ c. search rules) key-at-requires
     (λ c κs. search rules) (λ c. search rules) (λ c. search rules) (λ c. search rules) loop-again returns)

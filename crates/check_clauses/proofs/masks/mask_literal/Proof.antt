@@ -11,5 +11,5 @@ returns c =
     let a = c.before.before.before.args in
     c.mask-of.ensures ∙ ap (key_mask a.set.now a.n) c.before.key_of.ensures
 
-pub mask-literal-spec : {M : Type 1} → statement M
-mask-literal-spec = tie.close (tie.spec (λ c κs. search rules) (λ c κs. search rules) returns)
+pub mask_literal_spec : {M : Type 1} → statement M
+mask_literal_spec = tie.close (tie.spec (λ c κs. search rules) (λ c κs. search rules) returns)

@@ -19,7 +19,7 @@ returns-2 c =
     let a = c.before.before.before.args in
     sym (key-mask-none a.set.now a.wanted a.n (c.before.place-of.ensures.none c.if1.false))
 
-pub mask-of-spec : {M : Type 1} → statement M
-mask-of-spec =
+pub mask_of_spec : {M : Type 1} → statement M
+mask_of_spec =
     tie.close (tie.spec (λ c κs. search rules) (λ c. search rules) (λ c. search rules) (λ c. search rules) (λ c κs. search rules) returns
     returns-2)

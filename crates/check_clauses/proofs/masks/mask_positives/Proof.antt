@@ -89,7 +89,7 @@ returns-2 c =
     sym (positions-whole set a.n _ (l.invariant.2 ∙ all_end set a.n t l.at l.left c.loop-test.false)
     ∙ ap (λ m. record { whole = true; mask = m }) (l.invariant.1 ∙ positions-end set a.n t l.at l.left l.mask c.loop-test.false))
 
-pub mask-positives-spec : {M : Type 1} → statement M
-mask-positives-spec =
+pub mask_positives_spec : {M : Type 1} → statement M
+mask_positives_spec =
     tie.close (tie.spec invariant-loop decreases-loop loop-holds (λ c. search rules) (λ c. search rules) (λ c. search rules) key-at-requires
     (λ c κs. search rules) returns (λ c. search rules) (λ c. search rules) (λ c. search rules) loop-again returns-2)

@@ -23,5 +23,5 @@ returns-2 c =
     ap (λ k. record { count = 1; mask = k }) mask
     ∙ sym (mask-kept a.t.now a.set.now a.n a.at (sym at-is-defeated.is-defeated.ensures ∙ c.before.before.if1.false))
 
-pub mask-option-spec : {M : Type 1} → statement M
-mask-option-spec = tie.close (tie.spec (λ c κs. search rules) returns (λ c κs. search rules) (λ c κs. search rules) returns-2)
+pub mask_option_spec : {M : Type 1} → statement M
+mask_option_spec = tie.close (tie.spec (λ c κs. search rules) returns (λ c κs. search rules) (λ c κs. search rules) returns-2)

@@ -64,7 +64,7 @@ returns c =
     left-gathered a.set.now a.n _ l.count l.mask (omega (arith, l.invariant.2, ap length none))
     (sym (l.invariant.3 ∙ ap (λ ls. bit_or l.mask (union (literal_mask a.set.now a.n) ls)) none ∙ union-end (literal_mask a.set.now a.n) l.mask))
 
-pub mask-options-spec : {M : Type 1} → statement M
-mask-options-spec =
+pub mask_options_spec : {M : Type 1} → statement M
+mask_options_spec =
     tie.close (tie.spec invariant-loop decreases-loop loop-holds (λ c κs. search rules) add-count (λ c. search rules) (λ c. search rules)
     (λ c. search rules) loop-again returns)

@@ -55,8 +55,8 @@ returns-3 c =
     c.no-clause2.ensures
     ∙ sym (clause-missing a.t.now a.set.now a.n (sym removed.ensures ∙ kept.false) body.result body.ensures c.before.if2.false)
 
-pub clause-of-spec : {M : Type 1} → statement M
-clause-of-spec =
+pub clause_of_spec : {M : Type 1} → statement M
+clause_of_spec =
     tie.close (tie.spec is-removed-requires (λ c κs. search rules) returns (λ c. search rules) (λ c. search rules) (λ c. search rules)
     (λ c. search rules) (λ c. search rules) (λ c. search rules) mask-positives-requires clause-with-requires returns-2
     (λ c κs. search rules) returns-3)

@@ -42,7 +42,7 @@ returns-3 c =
     let left = c.before.before.mask-options in
     sym (with-left a.t.now a.body a.set.now a.n at-if1.if1.false left.result left.ensures c.if2.false)
 
-pub clause-with-spec : {M : Type 1} → statement M
-clause-with-spec =
+pub clause_with_spec : {M : Type 1} → statement M
+clause_with_spec =
     tie.close (tie.spec (λ c. search rules) (λ c. search rules) (λ c. search rules) mask-heads-requires returns mask-options-requires
     (λ c κs. search rules) returns-2 returns-3)

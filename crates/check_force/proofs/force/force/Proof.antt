@@ -36,5 +36,5 @@ returns-5 c =
     let a = at-if1.before.before.args in
     same-open a.body a.head a.must a.may c.before.before.if2.false c.before.if3.false c.if4.false
 
-pub force-spec : {M : Type 1} → statement M
-force-spec = tie.close (tie.spec (λ c κs. search rules) returns returns-2 returns-3 returns-4 returns-5)
+pub force_spec : {M : Type 1} → statement M
+force_spec = tie.close (tie.spec (λ c κs. search rules) returns returns-2 returns-3 returns-4 returns-5)

@@ -63,6 +63,6 @@ loop-again-2 c =
     let at-pass = at-if1.before.before in
     swept at-pass.before.loop.invariant at-pass.pass.ensures.kept
 
-pub propagate-spec : {M : Type 1} → statement M
-propagate-spec =
+pub propagate_spec : {M : Type 1} → statement M
+propagate_spec =
     tie.close (tie.spec invariant-loop decreases-loop loop-holds (λ c κs. search rules) returns returns-2 loop-less loop-again loop-less-2 loop-again-2)

@@ -18,7 +18,7 @@ returns c =
     most-steps a.t a.m c8.refine.ensures c7.refine2.ensures c6.refine3.ensures c5.refine4.ensures c4.refine5.ensures
     c3.refine6.ensures c2.refine7.ensures c.refine8.ensures
 
-pub most-spec : {M : Type 1} → statement M
-most-spec =
+pub most_spec : {M : Type 1} → statement M
+most_spec =
     tie.close (tie.spec (λ c κs. search rules) (λ c κs. search rules) (λ c κs. search rules) (λ c κs. search rules) (λ c κs. search rules)
     (λ c κs. search rules) (λ c κs. search rules) (λ c κs. search rules) returns)

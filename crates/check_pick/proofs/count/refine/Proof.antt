@@ -10,5 +10,5 @@ returns c = let a = c.before.args in refined-none a.m a.digit c.if1.true
 returns-2 : tie.Need-returns-2
 returns-2 c = let a = c.before.args in refined-kept a.m a.digit c.if1.false
 
-pub refine-spec : {M : Type 1} → statement M
-refine-spec = tie.close (tie.spec returns returns-2)
+pub refine_spec : {M : Type 1} → statement M
+refine_spec = tie.close (tie.spec returns returns-2)

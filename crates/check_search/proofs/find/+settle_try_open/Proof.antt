@@ -124,8 +124,8 @@ try-open-returns-3 t c =
     at_none.if2.false at-absent.settle.ensures
     c.settle2.ensures
 
-pub +settle-try-open-spec : {M : Type 1} → statement M
-+settle-try-open-spec =
+pub +settle_try_open_spec : {M : Type 1} → statement M
++settle_try_open_spec =
     close μ-settle μ-try-open (λ t. settle-lts.spec (settle-claims t) (settle-at t) settle.Post (settle-propagate-requires t)
     (settle-returns t) (settle-try-open-requires t) (settle-returns-2 t)) λ t. try-open-lts.spec (try-open-claims t) (try-open-at t)
     try-open.Post (try-open-returns t) (try-open-pick-requires t) (try-open-settle-requires t) (try-open-returns-2 t)

@@ -32,5 +32,5 @@ returns-2 c =
     let a = at-settle.before.before.before.args in
     first-smaller a.set a.bodies.now a.heads.now a.count c.lower.ensures
 
-pub find-smaller-spec : {M : Type 1} → statement M
-find-smaller-spec = tie.close (tie.spec (λ c κs. search rules) returns lower-requires returns-2)
+pub find_smaller_spec : {M : Type 1} → statement M
+find_smaller_spec = tie.close (tie.spec (λ c κs. search rules) returns lower-requires returns-2)

@@ -42,7 +42,7 @@ returns-2 c =
     decided-smaller a.set.now a.n a.out.now (found_first at-find) (not-false _ at_test.if1.false)
     at-write.write-picked.ensures.0 at-write.write-picked.ensures.1
 
-pub decide-spec : {M : Type 1} → statement M
-decide-spec =
+pub decide_spec : {M : Type 1} → statement M
+decide_spec =
     tie.close (tie.spec (λ c. search rules) (λ c κs. search rules) (λ c κs. search rules) returns (λ c κs. search rules) (λ c. search rules)
     returns-2)

@@ -69,7 +69,7 @@ returns-3 c =
     judged-decided start.requires at_clash.find-clash.ensures (omega (arith, at_test.if1.false)) at-build.build.ensures start.args.out.now
     (omega (arith, at-broken.if2.false)) (omega (arith, few.0, at-build.build.auto.1.1.1.0)) at-decide.decide.ensures
 
-pub judge-spec : {M : Type 1} → statement M
-judge-spec =
+pub judge_spec : {M : Type 1} → statement M
+judge_spec =
     tie.close (tie.spec find-clash-requires returns build-requires (λ c. search rules) (λ c. search rules) returns-2 decide-requires
     (λ c. search rules) (λ c. search rules) (λ c. search rules) returns-3)

@@ -183,8 +183,8 @@ sheets-returns t c =
     let at-meant = at-heads.before.before.before in
     at-meant.check-meant.ensures
 
-pub +check-meant-check-sheets-spec : {M : Type 1} → statement M
-+check-meant-check-sheets-spec =
+pub +check_meant_check_sheets_spec : {M : Type 1} → statement M
++check_meant_check_sheets_spec =
     close μ-check-meant μ-check-sheets
     (λ t. check-meant-lts.spec (check-meant-claims t) (check-meant-at t) check-meant.Post (meant-check-program-requires t)
     (λ c. search rules) (λ c. search rules) (λ c. search rules) (meant-returns t) (meant-check-sheets-requires t) (λ c. search rules) (meant-returns-2 t)

@@ -81,7 +81,7 @@ returns-2 c =
     read-met a.lim a.s.now a.k.now a.out.now start.pre.0.checked (given at_told) (bytes-k at_read) a.s.now (same at_told)
     (room at_told) at-check.check-program.ensures
 
-pub check-spec : {M : Type 1} → statement M
-check-spec =
+pub check_spec : {M : Type 1} → statement M
+check_spec =
     tie.close (tie.spec (λ c κs. search rules) (λ c. search rules) (λ c. search rules) check-program-requires returns (λ c. search rules)
     (λ c. search rules) (λ c. search rules) returns-2)

@@ -120,7 +120,7 @@ returns-3 c =
     read-met a.lim a.s.now a.k.now a.out.now start.pre.0.checked (given at_told) (bytes-k at_read) a.s.now (same at-if)
     (room at-if) at-check.check-program.ensures
 
-pub check-file-spec : {M : Type 1} → statement M
-check-file-spec =
+pub check_file_spec : {M : Type 1} → statement M
+check_file_spec =
     tie.close (tie.spec (λ c κs. search rules) (λ c. search rules) (λ c. search rules) (λ c κs. search rules) (λ c. search rules) check-meant-requires
     (λ c. search rules) (λ c. search rules) (λ c. search rules) returns check-program-requires returns-2 (λ c. search rules) (λ c. search rules) (λ c. search rules) returns-3)

@@ -18,6 +18,6 @@ returns c =
     let a = at-shared-slice-known.before.args in
     checked-same a.s.now a.k.now a.out.now at-limits.limits.ensures at-check.check.ensures
 
-pub check-plain-spec : {M : Type 1} → statement M
-check-plain-spec =
+pub check_plain_spec : {M : Type 1} → statement M
+check_plain_spec =
     tie.close (tie.spec (λ c κs. search rules) (λ c. search rules) (λ c. search rules) check-requires (λ c. search rules) returns)

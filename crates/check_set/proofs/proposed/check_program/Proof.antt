@@ -33,6 +33,6 @@ returns-2 c w =
     let a = (start_of at_room.before).args in
     program-found a.s.now a.k.now a.out.now w (omega (arith, at_room.if1.false)) at-judge.judge.ensures
 
-pub check-program-spec : {M : Type 1} → statement M
-check-program-spec =
+pub check_program_spec : {M : Type 1} → statement M
+check_program_spec =
     tie.close (tie.spec returns judge-requires (λ c. search rules) (λ c. search rules) (λ c. search rules) returns-2)

@@ -31,5 +31,5 @@ returns-2 c =
       ◌∙◌ {b = write a.out.now a.to bs} at_copy.copy.ensures (ap (write a.out.now a.to) (sym e)),
     )
 
-pub copy-picked-spec : {M : Type 1} → statement M
-copy-picked-spec = tie.close (tie.spec (λ c κs. search rules) returns (λ c κs. search rules) (λ c. search rules) returns-2)
+pub copy_picked_spec : {M : Type 1} → statement M
+copy_picked_spec = tie.close (tie.spec (λ c κs. search rules) returns (λ c κs. search rules) (λ c. search rules) returns-2)

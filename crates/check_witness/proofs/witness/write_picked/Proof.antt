@@ -70,8 +70,8 @@ returns c =
       picked-written a.model a.set.now a.n l.to long a.out.now l.out _ (omega arith) done at-end.write-set-header.ensures,
     )
 
-pub write-picked-spec : {M : Type 1} → statement M
-write-picked-spec =
+pub write_picked_spec : {M : Type 1} → statement M
+write_picked_spec =
     tie.close (tie.spec invariant-loop decreases-loop loop-holds (λ c. search rules) (λ c. search rules) (λ c κs. search rules)
     (λ c. omega (arith, few c.before.before)) (λ c. search rules) (λ c. search rules) loop-again (λ c. search rules) (λ c. search rules)
     (λ c κs. search rules) (λ c. search rules) returns)

@@ -24,8 +24,8 @@ returns-2 c =
       most = omega (arith, most-reached 9 10 n);
     }
 
-pub count-figures-spec : {M : Type 1} → statement M
-count-figures-spec =
+pub count_figures_spec : {M : Type 1} → statement M
+count_figures_spec =
     tie.close (tie.spec (λ c. search rules) (λ c. omega (arith, most-reached 4 10 c.args.n)) (λ c. search rules)
     (λ c. omega (arith, most-reached 4 10 c.args.n)) (λ c. search rules) (λ c. omega (arith, most-reached 4 10 c.args.n))
     (λ c. search rules) (λ c. omega (arith, most-reached 4 10 c.args.n)) returns (λ c. search rules)

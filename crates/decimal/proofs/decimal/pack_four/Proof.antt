@@ -13,7 +13,7 @@ sub-result c = tens-fit c.args.n c.requires
 returns : tie.Need-returns
 returns c = packed-four c.args.n c.requires
 
-pub pack-four-spec : {M : Type 1} → statement M
-pack-four-spec =
+pub pack_four_spec : {M : Type 1} → statement M
+pack_four_spec =
     tie.close (tie.spec (λ c. search rules) (λ c. search rules) (λ c. search rules) (λ c. search rules) (λ c. search rules) (λ c. search rules)
     (λ c. search rules) sub-result (λ c. search rules) returns)

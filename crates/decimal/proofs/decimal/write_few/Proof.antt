@@ -36,8 +36,8 @@ returns-3 c =
     let start = c.before.before in
     one-stored start.args.out.now start.args.at start.args.n start.requires.1 c.if2.false
 
-pub write-few-spec : {M : Type 1} → statement M
-write-few-spec =
+pub write_few_spec : {M : Type 1} → statement M
+write_few_spec =
     tie.close (tie.spec (λ c. search rules) (λ c. search rules) (λ c. omega (arith, three c)) (λ c. search rules) (λ c. search rules)
     (λ c. search rules) (λ c. simp length-set (omega (arith, three c))) (λ c. search rules) (λ c. search rules) (λ c. search rules)
     (λ c. simp length-set (omega (arith, three c))) (λ c. search rules) (λ c. search rules) returns

@@ -12,8 +12,8 @@ returns c =
     let start = c.before.before in
     packed-stored start.args.out.now start.args.at start.args.n _ c.pack-four.ensures start.requires.1
 
-pub write-four-spec : {M : Type 1} → statement M
-write-four-spec =
+pub write_four_spec : {M : Type 1} → statement M
+write_four_spec =
     tie.close (tie.spec (λ c κs. search rules) (λ c. search rules) (λ c. search rules) (λ c. search rules) (λ c. search rules)
     (λ c. simp length-set (omega arith)) (λ c. search rules) (λ c. search rules) (λ c. simp length-set (omega arith)) (λ c. search rules)
     (λ c. search rules) (λ c. simp length-set (omega arith)) (λ c. search rules) returns)

@@ -46,8 +46,8 @@ returns c =
       next = omega arith;
     }
 
-pub write-many-spec : {M : Type 1} → statement M
-write-many-spec =
+pub write_many_spec : {M : Type 1} → statement M
+write_many_spec =
     tie.close (tie.spec invariant-loop decreases-loop (λ c κs. search rules) (λ c. search rules) (λ c. search rules) loop-holds (λ c. search rules)
     (λ c. search rules) (λ c. search rules) sub-to-2 (λ c. search rules) loop-again (λ c. search rules) (λ c. search rules) (λ c. search rules)
     (λ c. search rules) returns)

@@ -29,8 +29,8 @@ returns c =
     more-stored start.args.out.now start.args.at start.args.n start.requires.1.1 start.requires.0 start.requires.1.0 _
     at-four.write-four.ensures
 
-pub write-more-spec : {M : Type 1} → statement M
-write-more-spec =
+pub write_more_spec : {M : Type 1} → statement M
+write_more_spec =
     tie.close (tie.spec (λ c. search rules) (λ c. search rules) (λ c. omega (arith, long c.before)) (λ c. search rules)
     (λ c. omega (arith, long c.before)) write-four-requires (λ c. omega (arith, long c.before.before.before.before.before))
     same_length returns)

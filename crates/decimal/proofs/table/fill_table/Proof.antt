@@ -34,8 +34,8 @@ returns c =
     let l = c.before.loop in
     filled-all l.table l.i l.invariant.0 (omega arith) l.invariant.3
 
-pub fill-table-spec : {M : Type 1} → statement M
-fill-table-spec =
+pub fill_table_spec : {M : Type 1} → statement M
+fill_table_spec =
     tie.close (tie.spec invariant-loop decreases-loop (λ c. (c.requires, refl, omega arith, filled_none c.args.table.now))
     (λ c. search rules) (λ c. omega (arith, few c)) (λ c. search rules) (λ c. omega (arith, few c))
     (λ c. omega arith) (λ c. search rules) (λ c. omega arith) (λ c. search rules) (λ c. omega arith) (λ c. omega (arith, few c))

@@ -46,8 +46,8 @@ returns c =
     let start = c.before.before.before.before in
     packed-decimal start.args.n _ _ start.requires.0 (high_is start) (low-is start) _ (many_is c)
 
-pub pack-decimal-spec : {M : Type 1} → statement M
-pack-decimal-spec =
+pub pack_decimal_spec : {M : Type 1} → statement M
+pack_decimal_spec =
     tie.close (tie.spec (λ c. search rules) (λ c. search rules) (λ c. search rules) (λ c. search rules) (λ c. search rules) (λ c. search rules)
     add-many (λ c. search rules) (λ c. search rules) (λ c. search rules) (λ c. search rules)
     (λ c. omega (arith, few c)) (λ c. omega (arith, few c)) (λ c. search rules) (λ c. search rules) (λ c. omega (arith, few c)) add-result returns)

@@ -114,8 +114,8 @@ returns c w =
     normal w.items w.asked (held (entry at-heads)) w.fronted (won at-heads) (lost at-heads) (headed at-heads w) _ _
     (append-of at_back).append-rules.result (append-of at_back).append-rules.ensures c.before.before.write-end.ensures
 
-pub write-behind-spec : {M : Type 1} → statement M
-write-behind-spec =
+pub write_behind_spec : {M : Type 1} → statement M
+write_behind_spec =
     tie.close (tie.spec
     (λ c. omega (arith, fits (start_of c), (start_of c).good.0)) (λ c. omega (arith, fits (start_of c)))
     (λ c. sym (length-take-le _ _ (omega (arith, fits (start_of c.before)))))

@@ -75,8 +75,8 @@ returns c w =
     let at-collect = collect-of at-end.before.before in
     fronted w.items w.asked (held at-collect) (collected at-collect w) _ at-end.write-end.ensures
 
-pub write-front-spec : {M : Type 1} → statement M
-write-front-spec =
+pub write_front_spec : {M : Type 1} → statement M
+write_front_spec =
     tie.close (tie.spec collect-requires
     (λ c. let at = collect-of c in omega (arith, rules-fit (asked at).items (asked at).asked (held at) (collected at (asked at))))
     (λ c κs. omega (arith, room (collect-of c.before))) (λ c. search rules) (λ c. search rules) (λ c. search rules) (λ c. search rules)

@@ -67,8 +67,8 @@ returns c =
     let at-behind = c.before.before.before.before in
     ((λ w. at-behind.write-behind.ensures (appendable (front_of at-behind.before) w)), refl)
 
-pub write-normal-spec : {M : Type 1} → statement M
-write-normal-spec =
+pub write_normal_spec : {M : Type 1} → statement M
+write_normal_spec =
     tie.close (tie.spec (λ c. search rules) (λ c. search rules) (λ c. search rules) (λ c. search rules) (λ c. search rules) write-front-requires
     (λ c. search rules) (λ c. search rules) (λ c. search rules) (λ c. search rules) (λ c. search rules) (λ c. search rules) (λ c. search rules)
     write-behind-requires (λ c. search rules) returns)

@@ -122,8 +122,8 @@ loop-holds c =
           (collected-none a.out.now a.up.now a.low.now a.lowers.now a.ones.now a.others.now start.requires.1),
     )
 
-pub collect-spec : {M : Type 1} → statement M
-collect-spec =
+pub collect_spec : {M : Type 1} → statement M
+collect_spec =
     tie.close (tie.spec invariant-loop decreases-loop loop-holds
     (λ c. omega (arith, opens c.before)) (λ c. omega (arith, opens c.before.before)) (λ c. omega (arith, opens c.before.before))
     (λ c. search rules) collect-item-requires (λ c κs. omega (arith, long (part_of (item_of c))))

@@ -96,8 +96,8 @@ size_of c =
     let at_copy = c.before.before in
     at_copy.before.before
 
-pub collect-item-spec : {M : Type 1} → statement M
-collect-item-spec =
+pub collect_item_spec : {M : Type 1} → statement M
+collect_item_spec =
     tie.close (tie.spec (λ c. search rules) (λ c κs. omega (arith, (over c).long)) (λ c κs. omega (arith, (over c.before).long)) add-override-requires
     add-held (λ c. search rules) (λ c. search rules) (λ c. search rules) returns
     (λ c κs. omega (arith, (oppo c).long)) (λ c κs. omega (arith, (oppo c.before).long)) add-opposition-requires (λ c. search rules) (λ c. search rules)

@@ -97,8 +97,8 @@ loop-again c =
 returns : tie.Need-returns invariant-loop decreases-loop
 returns c w = along-end (c.before.before.loop.invariant.2 w) c.if1.false
 
-pub mark-heads-spec : {M : Type 1} → statement M
-mark-heads-spec =
+pub mark_heads_spec : {M : Type 1} → statement M
+mark_heads_spec =
     tie.close (tie.spec invariant-loop decreases-loop
     (λ c. let start = c.before.before.before.before.before in let a = start.args in
     (refl, start.requires.1.1, pass-start a.s.now _ (heads-none a.up.now a.low.now a.win.now a.lose.now)))

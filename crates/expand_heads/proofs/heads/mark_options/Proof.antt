@@ -79,8 +79,8 @@ returns c =
     let s = (start_of c.before).args.part.now in
     (marking-end s l.at l.left l.invariant.4 c.loop-test.false, marking-end s l.at l.left l.invariant.5 c.loop-test.false)
 
-pub mark-options-spec : {M : Type 1} → statement M
-mark-options-spec =
+pub mark_options_spec : {M : Type 1} → statement M
+mark_options_spec =
     tie.close (tie.spec invariant-loop decreases-loop (λ c. search rules) (λ c. search rules) loop-holds (λ c κs. search rules) (λ c κs. search rules)
     (λ c. omega (arith, in-win c)) (λ c. in-win c.before) (λ c. omega (arith, in-win c.before)) (λ c. in-win c.before)
     (λ c. omega (arith, in-lose c.before)) (λ c. in-lose c.before.before) (λ c. omega (arith, in-lose c.before.before))

@@ -45,8 +45,8 @@ returns-2 c =
     head-defeasible a.part.now a.up.now a.low.now a.win.now a.lose.now _ _ at_tag.tag_at.result.0 at_tag.before.if1.false
     (ap (λ (t : Tag). t.0) at_tag.tag_at.ensures) at_mark.mark-options.ensures.0 at_mark.mark-options.ensures.1
 
-pub mark-rule-spec : {M : Type 1} → statement M
-mark-rule-spec =
+pub mark_rule_spec : {M : Type 1} → statement M
+mark_rule_spec =
     tie.close (tie.spec (λ c. search rules) returns (λ c κs. search rules) (λ c. search rules) (λ c. omega (arith, within c.before))
     (λ c. omega (arith, within c.before.before)) (λ c. omega (arith, within c.before.before))
     (λ c. omega (arith, within c.before.before.before)) mark-options-requires (λ c. search rules) (λ c. search rules) returns-2)

@@ -81,8 +81,8 @@ returns c =
     overrides-end a.low.now a.lowers.now a.win.now a.lose.now a.ones.now a.others.now a.m l.i l.left 0 l.invariant.1
     c.loop-test.false
 
-pub append-rules-spec : {M : Type 1} → statement M
-append-rules-spec =
+pub append_rules_spec : {M : Type 1} → statement M
+append_rules_spec =
     tie.close (tie.spec invariant-loop decreases-loop loop-holds (λ c. search rules) (λ c. search rules) cast-at (λ c. search rules) mul-same
     shared-slice-read-same (λ c. search rules) (λ c κs. search rules) write-pairs-requires (λ c. search rules) (λ c. search rules) (λ c. search rules)
     loop-again same_length returns)

@@ -15,7 +15,7 @@ returns c =
     defeat-written a.out.now _ _ _ a.to a.lower a.loser a.winner start.requires at-header.write-header.ensures
     at_first.encode.ensures at_second.encode2.ensures
 
-pub write-defeat-spec : {M : Type 1} → statement M
-write-defeat-spec =
+pub write_defeat_spec : {M : Type 1} → statement M
+write_defeat_spec =
     tie.close (tie.spec (λ c κs. search rules) (λ c. search rules) (λ c κs. search rules) (λ c. search rules) (λ c κs. search rules)
     (λ c. search rules) returns)

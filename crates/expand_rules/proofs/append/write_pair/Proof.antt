@@ -41,7 +41,7 @@ returns c =
     pair-written a.win.now a.lose.now a.same a.i a.t a.k a.l (omega (arith, start.requires.1.1.1.1.1))
     at_first.write-way.ensures at_second.write-way2.ensures
 
-pub write-pair-spec : {M : Type 1} → statement M
-write-pair-spec =
+pub write_pair_spec : {M : Type 1} → statement M
+write_pair_spec =
     tie.close (tie.spec (λ c. search rules) (λ c. search rules) (λ c. search rules) (λ c. search rules) write-way-requires (λ c. search rules)
     (λ c. search rules) (λ c. search rules) (λ c. search rules) write-way-requires-2 (λ c. search rules) returns)

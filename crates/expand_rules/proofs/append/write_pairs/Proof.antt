@@ -65,7 +65,7 @@ returns c =
     let a = (start_of c.before).args in
     pairs_end a.win.now a.lose.now a.ones.now a.others.now a.same a.i a.t l.j l.left l.invariant.1 c.loop-test.false
 
-pub write-pairs-spec : {M : Type 1} → statement M
-write-pairs-spec =
+pub write_pairs_spec : {M : Type 1} → statement M
+write_pairs_spec =
     tie.close (tie.spec invariant-loop decreases-loop loop-holds (λ c. search rules) (λ c. search rules) (λ c. search rules) (λ c. search rules)
     write-pair-requires (λ c. search rules) (λ c. search rules) (λ c. search rules) loop-again same_length returns)

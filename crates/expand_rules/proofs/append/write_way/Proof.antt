@@ -38,7 +38,7 @@ returns-2 c =
     (sym at-is-new.is-new.ensures ∙ not-false _ at-if.if1.false) at-winner.before.option-of.ensures at-winner.option-of2.ensures
     at-write.write-defeat.ensures
 
-pub write-way-spec : {M : Type 1} → statement M
-write-way-spec =
+pub write_way_spec : {M : Type 1} → statement M
+write_way_spec =
     tie.close (tie.spec (λ c κs. search rules) returns (λ c κs. search rules) (λ c κs. search rules) write-defeat-requires (λ c. search rules)
     (λ c. search rules) returns-2)

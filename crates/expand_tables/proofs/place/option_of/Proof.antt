@@ -10,5 +10,5 @@ returns c = option-even c.before.args.k c.if1.true
 returns-2 : tie.Need-returns-2
 returns-2 c = option-odd c.before.args.k c.if1.false
 
-pub option-of-spec : {M : Type 1} → statement M
-option-of-spec = tie.close (tie.spec returns returns-2)
+pub option_of_spec : {M : Type 1} → statement M
+option_of_spec = tie.close (tie.spec returns returns-2)

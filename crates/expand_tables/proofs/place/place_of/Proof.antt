@@ -11,7 +11,7 @@ returns c = place-positive _ _ c.before.before.a.given.1
 returns-2 : tie.Need-returns-2
 returns-2 c = place-negative _ _ c.before.before.a2.given.1
 
-pub place-of-spec : {M : Type 1} → statement M
-place-of-spec =
+pub place_of_spec : {M : Type 1} → statement M
+place_of_spec =
     tie.close (tie.spec (λ c. search rules) (λ c. search rules) (λ c. search rules) (λ c. search rules) (λ c. search rules) (λ c. search rules)
     (λ c. search rules) returns returns-2)

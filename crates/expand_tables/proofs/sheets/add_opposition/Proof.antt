@@ -15,8 +15,8 @@ returns c =
     opposed a.a a.b a.m a.ones.now a.others.now _ _ c.has-pair.result at_second.before.place-of.ensures
     at_second.place-of2.ensures start.requires.1.1.0 start.requires.1.1.1 c.has-pair.ensures
 
-pub add-opposition-spec : {M : Type 1} → statement M
-add-opposition-spec =
+pub add_opposition_spec : {M : Type 1} → statement M
+add_opposition_spec =
     tie.close (tie.spec (λ c κs. search rules) (λ c. search rules) (λ c κs. search rules) (λ c. search rules) (λ c κs. search rules)
     (λ c. search rules) (λ c. search rules) (λ c. search rules) (λ c. search rules) (λ c. search rules)
     (λ c. omega (arith, byte_le (not c.has-pair.result))) (λ c. search rules) (λ c. search rules) returns)

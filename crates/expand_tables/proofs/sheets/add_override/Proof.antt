@@ -13,8 +13,8 @@ returns c =
     overridden a.upper a.lower a.n a.up.now a.low.now a.lowers.now at-single-at.single-at.result at-single-at.single-at.ensures
     start.requires.0 start.requires.1.0 start.requires.1.1.0
 
-pub add-override-spec : {M : Type 1} → statement M
-add-override-spec =
+pub add_override_spec : {M : Type 1} → statement M
+add_override_spec =
     tie.close (tie.spec (λ c. search rules) (λ c κs. search rules) (λ c. search rules) (λ c. search rules) (λ c. search rules) (λ c. search rules)
     (λ c. search rules) (λ c. search rules) (λ c. search rules) (λ c. search rules) (λ c. search rules) (λ c. search rules) (λ c. search rules)
     (λ c. search rules) (λ c. search rules) (λ c. search rules) (λ c. search rules) returns)

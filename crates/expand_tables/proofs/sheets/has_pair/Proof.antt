@@ -41,7 +41,7 @@ returns-2 c =
     let a = c.before.before.args in
     sym (l.invariant.2 ∙ pair-none a.ones.now a.others.now a.k a.l l.i l.left c.loop-test.false)
 
-pub has-pair-spec : {M : Type 1} → statement M
-has-pair-spec =
+pub has_pair_spec : {M : Type 1} → statement M
+has_pair_spec =
     tie.close (tie.spec invariant-loop decreases-loop (λ c. search rules) (λ c. search rules) (λ c. search rules) (λ c. search rules) (λ c. search rules) returns
     (λ c. search rules) (λ c. search rules) (λ c. search rules) loop-again returns-2)

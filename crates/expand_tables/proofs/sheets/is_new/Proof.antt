@@ -17,5 +17,5 @@ returns c =
     let a = at-single-at.before.args in
     ap₂ (λ (n : ℕ) (t : Bool). eqb (bit_and a.w a.same) n && t) at-single-at.single-at.ensures c.is-in.ensures
 
-pub is-new-spec : {M : Type 1} → statement M
-is-new-spec = tie.close (tie.spec (λ c κs. search rules) (λ c κs. search rules) returns)
+pub is_new_spec : {M : Type 1} → statement M
+is_new_spec = tie.close (tie.spec (λ c κs. search rules) (λ c κs. search rules) returns)

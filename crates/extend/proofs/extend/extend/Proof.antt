@@ -53,6 +53,6 @@ returns-2 c =
     read-met a.lim a.s.now a.k.now start.pre (given at_told) (bytes (read_of at_told)) (chars (read_of at_told)) a.out.now
     at-write.write-extension.ensures
 
-pub extend-spec : {M : Type 1} → statement M
-extend-spec =
+pub extend_spec : {M : Type 1} → statement M
+extend_spec =
     tie.close (tie.spec (λ c κs. search rules) (λ c. search rules) (λ c. search rules) write-extension-requires returns (λ c. search rules) returns-2)

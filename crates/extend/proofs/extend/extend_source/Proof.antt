@@ -19,5 +19,5 @@ returns c =
     let a = at-shared-slice-known.before.args in
     meets-same at-limits.limits.result source a.s.now a.k.now a.out.now at-limits.limits.ensures at-extend.extend.ensures
 
-pub extend-source-spec : {M : Type 1} → statement M
-extend-source-spec = tie.close (tie.spec (λ c κs. search rules) extend-requires (λ c. search rules) returns)
+pub extend_source_spec : {M : Type 1} → statement M
+extend_source_spec = tie.close (tie.spec (λ c κs. search rules) extend-requires (λ c. search rules) returns)

@@ -33,7 +33,7 @@ returns c w =
     let at-slice-known2 = at-sort-keys.before.before.before in
     gained-sorted (at-slice-known2.before.before.collect-marks.ensures w) at-sort-keys.sort-keys.ensures.0
 
-pub gather-marks-spec : {M : Type 1} → statement M
-gather-marks-spec =
+pub gather_marks_spec : {M : Type 1} → statement M
+gather_marks_spec =
     tie.close (tie.spec (λ c κs. search rules) slice-relend-prefix-sort-keys slice-aggregate-sort-keys (λ c. search rules)
     sort-keys-requires (λ c. search rules) returns)

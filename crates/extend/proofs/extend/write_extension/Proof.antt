@@ -79,7 +79,7 @@ returns-2 c w =
     _ _ _ refl at-if1.before.before.gather-marks.ensures
     a.out.now _ at-if1.if1.false at-write-joined.write-joined.ensures
 
-pub write-extension-spec : {M : Type 1} → statement M
-write-extension-spec =
+pub write_extension_spec : {M : Type 1} → statement M
+write_extension_spec =
     tie.close (tie.spec (λ c. search rules) gather-marks-requires (λ c. omega (arith, few c)) (λ c. omega (arith, few c))
     (λ c. omega (arith, few c)) returns (λ c. search rules) write-joined-requires (λ c. search rules) returns-2)

@@ -24,7 +24,7 @@ returns c =
     joined-writes a.set.now a.count (take a.n a.keys.now) a.n a.out.now _ _ _ start.requires.0
     at_out.before.write-set-header.ensures at_copy.copy.ensures c.before.before.write-keys.ensures
 
-pub write-joined-spec : {M : Type 1} → statement M
-write-joined-spec =
+pub write_joined_spec : {M : Type 1} → statement M
+write_joined_spec =
     tie.close (tie.spec (λ c. search rules) (λ c. search rules) (λ c. search rules) (λ c κs. search rules) (λ c κs. search rules)
     (λ c. search rules) write-keys-requires (λ c. search rules) returns)

@@ -14,7 +14,7 @@ returns c =
     gained-option a.t (key_set a.set.now a.count) a.a a.keys.now a.n at-key-of.key_of.result
     c.is-derived.result at-key-of.key_of.ensures c.is-derived.ensures start.requires.1.1
 
-pub add-derived-spec : {M : Type 1} → statement M
-add-derived-spec =
+pub add_derived_spec : {M : Type 1} → statement M
+add_derived_spec =
     tie.close (tie.spec (λ c κs. search rules) (λ c. search rules) (λ c. search rules) (λ c κs. search rules) (λ c. search rules)
     (λ c. search rules) returns)

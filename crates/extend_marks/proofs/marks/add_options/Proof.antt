@@ -76,8 +76,8 @@ returns c =
     subst (λ (u : Tag). Gained a.keys.now l.keys a.n l.added (map key (derived_marks u (options_at part 7 (head_count part)) s))) t.ensures
     (gaining-end l.invariant.3 (marks-none t.result s part l.at l.left c.loop-test.false))
 
-pub add-options-spec : {M : Type 1} → statement M
-add-options-spec =
+pub add_options_spec : {M : Type 1} → statement M
+add_options_spec =
     tie.close (tie.spec invariant-loop decreases-loop (λ c κs. search rules) (λ c. search rules) (λ c. search rules) loop-holds (λ c κs. search rules)
     (λ c. search rules) add-derived-requires (λ c. omega (arith, few c.before.before)) (λ c. search rules) (λ c. search rules)
     (λ c. search rules) loop-again (λ c. search rules) returns)

@@ -58,7 +58,7 @@ returns-3 c =
     gained-open (key_set a.set.now a.count) a.number.0 a.part.now a.keys.now a.n at-is-defeated.before.if1.false
     (sym at-is-defeated.is-defeated.ensures ∙ at-add-options.before.before.if2.false) at-add-options.add-options.ensures
 
-pub add-rule-spec : {M : Type 1} → statement M
-add-rule-spec =
+pub add_rule_spec : {M : Type 1} → statement M
+add_rule_spec =
     tie.close (tie.spec (λ c. search rules) returns is-defeated-requires (λ c κs. search rules) mul-keys slice-write-keys
     (λ c. search rules) returns-2 add-options-requires (λ c. search rules) returns-3)

@@ -167,9 +167,9 @@ loop-again-2 c =
 returns : tie.Need-returns invariant-loop decreases-loop
 returns c w = (along-items-end (c.before.before.loop.invariant.1 w) c.if1.false).gained
 
-pub collect-marks-spec : {M : Type 1} → statement M
+pub collect_marks_spec : {M : Type 1} → statement M
 unfolding rules
-collect-marks-spec =
+collect_marks_spec =
     tie.close (tie.spec invariant-loop decreases-loop
     (λ c. let a = c.before.before.before.args in (refl, item-pass-start a.s.now _ (collected-start (key_set a.set.now a.count) a.keys.now)))
     (λ c. omega (arith, opens c.before)) (λ c. omega (arith, opens c.before.before)) (λ c. omega (arith, opens c.before.before))

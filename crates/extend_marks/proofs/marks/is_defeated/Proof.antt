@@ -85,7 +85,7 @@ returns-2 c =
     sym (by-tag a.set.now a.count a.part.now t.ensures ∙ l.invariant.1
     ∙ defeated-none t.result (key_set a.set.now a.count) a.part.now l.at l.left c.loop-test.false)
 
-pub is-defeated-spec : {M : Type 1} → statement M
-is-defeated-spec =
+pub is_defeated_spec : {M : Type 1} → statement M
+is_defeated_spec =
     tie.close (tie.spec invariant-loop decreases-loop (λ c κs. search rules) (λ c. search rules) (λ c. search rules) (λ c. search rules)
     (λ c κs. search rules) (λ c κs. search rules) returns (λ c. search rules) (λ c. search rules) (λ c. search rules) loop-again returns-2)

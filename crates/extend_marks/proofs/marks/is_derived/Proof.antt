@@ -16,5 +16,5 @@ returns-2 c =
     let a = c.before.before.before.args in
     first-test _ (key_set a.set.now a.count (Defeated a.t a.a)) _ c.before.is_member.ensures c.if1.false
 
-pub is-derived-spec : {M : Type 1} → statement M
-is-derived-spec = tie.close (tie.spec (λ c κs. search rules) (λ c κs. search rules) returns returns-2)
+pub is_derived_spec : {M : Type 1} → statement M
+is_derived_spec = tie.close (tie.spec (λ c κs. search rules) (λ c κs. search rules) returns returns-2)

@@ -14,5 +14,5 @@ returns-2 c = sym (sheet-opposition _ c.if2.true)
 returns-3 : tie.Need-returns-3
 returns-3 c = sym (sheet-none _ c.before.if1.false c.if2.false)
 
-pub sheet-size-spec : {M : Type 1} → statement M
-sheet-size-spec = tie.close (tie.spec returns returns-2 returns-3)
+pub sheet_size_spec : {M : Type 1} → statement M
+sheet_size_spec = tie.close (tie.spec returns returns-2 returns-3)

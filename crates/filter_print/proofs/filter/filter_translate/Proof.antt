@@ -44,7 +44,7 @@ returns-2 c =
     prints-refusal came a.out.now (omega (arith, fits)) (omega arith) _ _ _ _ at_call.translate-source.ensures at-refusal.answer2.given.1
     at-write-refusal.write-refusal.ensures
 
-pub filter-translate-spec : {M : Type 1} → statement M
-filter-translate-spec =
+pub filter_translate_spec : {M : Type 1} → statement M
+filter_translate_spec =
     tie.close (tie.spec slice-aggregate-translate-source (λ c κs. search rules) (λ c. search rules) (λ c. search rules)
     write-refusal-requires (λ c. search rules) returns (λ c. search rules) returns-2)

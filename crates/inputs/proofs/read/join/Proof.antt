@@ -15,5 +15,5 @@ returns-2 : tie.Need-returns-2
 unfolding both_of
 returns-2 c = let a = c.before.before.before.args in sym (ap (λ (f : Holding). both_of f a.count) c.before.file2.given.1)
 
-pub join-spec : {M : Type 1} → statement M
-join-spec = tie.close (tie.spec (λ c. search rules) (λ c. search rules) returns returns-2)
+pub join_spec : {M : Type 1} → statement M
+join_spec = tie.close (tie.spec (λ c. search rules) (λ c. search rules) returns returns-2)

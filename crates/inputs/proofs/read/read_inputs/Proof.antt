@@ -42,7 +42,7 @@ returns-3 c =
     sym (both-set a.lim a.most a.s.now a.k.now _ (sym (file-of at_set).read-items.ensures ∙ at_set.before.enum_told.given.1) _
     (sym at_set.read_set.ensures ∙ at-refused.set2.given.1))
 
-pub read-inputs-spec : {M : Type 1} → statement M
-read-inputs-spec =
+pub read_inputs_spec : {M : Type 1} → statement M
+read_inputs_spec =
     tie.close (tie.spec (λ c κs. search rules) (λ c. search rules) (λ c. search rules) (λ c κs. search rules) returns (λ c κs. search rules)
     (λ c. search rules) (λ c κs. search rules) (λ c. search rules) returns-2 returns-3)

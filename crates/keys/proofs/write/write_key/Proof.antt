@@ -16,7 +16,7 @@ returns c =
     rw (c.before.before.put-number2.ensures, at-put-number.put-number.ensures, at-put-byte.put_byte.ensures)
     (write-fields a.out.now a.at a.key (omega arith))
 
-pub write-key-spec : {M : Type 1} → statement M
-write-key-spec =
+pub write_key_spec : {M : Type 1} → statement M
+write_key_spec =
     tie.close (tie.spec (λ c. search rules) (λ c κs. search rules) (λ c. search rules) (λ c. search rules) (λ c κs. search rules)
     (λ c. search rules) (λ c. search rules) (λ c κs. search rules) (λ c. search rules) returns)

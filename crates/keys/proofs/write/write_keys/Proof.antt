@@ -58,7 +58,7 @@ returns c =
     sym (l.invariant.3 ∙ ap (write l.out l.next) (keys_none a.keys.now a.count start.requires.0 l.at c.loop-test.false)
     ∙ write-nil l.out l.next)
 
-pub write-keys-spec : {M : Type 1} → statement M
-write-keys-spec =
+pub write_keys_spec : {M : Type 1} → statement M
+write_keys_spec =
     tie.close (tie.spec invariant-loop decreases-loop (λ c. search rules) (λ c. search rules) (λ c. search rules) write-key-requires (λ c. search rules)
     (λ c. search rules) (λ c. search rules) loop-again (λ c. search rules) returns)

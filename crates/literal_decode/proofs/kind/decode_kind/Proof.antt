@@ -19,6 +19,6 @@ returns-2 c =
     let a = c.before.before.before.args in
     c.decode-plain-kind.ensures ∙ sym (ap (λ (K : Kinds). span_among K a.lim a.kind) c.before.enum-told2.given.1)
 
-pub decode-kind-spec : {M : Type 1} → statement M
-decode-kind-spec =
+pub decode_kind_spec : {M : Type 1} → statement M
+decode_kind_spec =
     tie.close (tie.spec (λ c. search rules) (λ c κs. search rules) (λ c. search rules) (λ c κs. search rules) returns returns-2)

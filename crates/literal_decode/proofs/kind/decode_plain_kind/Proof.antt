@@ -22,6 +22,6 @@ returns-3 c =
     let made = c.before.before in
     made.decode-rule-kind.ensures ∙ sym (plain_other _ _ (omega (arith, c.if2.false)))
 
-pub decode-plain-kind-spec : {M : Type 1} → statement M
-decode-plain-kind-spec =
+pub decode_plain_kind_spec : {M : Type 1} → statement M
+decode_plain_kind_spec =
     tie.close (tie.spec (λ c κs. search rules) (λ c κs. search rules) (λ c κs. search rules) returns returns-2 returns-3)

@@ -16,5 +16,5 @@ returns-2 c =
     let made = c.before in
     made.range2.ensures ∙ sym (rule-refused _ _ c.match.rest.1)
 
-pub decode-rule-kind-spec : {M : Type 1} → statement M
-decode-rule-kind-spec = tie.close (tie.spec (λ c κs. search rules) (λ c κs. search rules) returns returns-2)
+pub decode_rule_kind_spec : {M : Type 1} → statement M
+decode_rule_kind_spec = tie.close (tie.spec (λ c κs. search rules) (λ c κs. search rules) returns returns-2)

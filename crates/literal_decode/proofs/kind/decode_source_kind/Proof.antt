@@ -22,6 +22,6 @@ returns-3 c =
     let made = c.before.before in
     made.range3.ensures ∙ sym (source-refused _ _ (omega (arith, c.if2.false)))
 
-pub decode-source-kind-spec : {M : Type 1} → statement M
-decode-source-kind-spec =
+pub decode_source_kind_spec : {M : Type 1} → statement M
+decode_source_kind_spec =
     tie.close (tie.spec (λ c κs. search rules) (λ c κs. search rules) (λ c κs. search rules) returns returns-2 returns-3)

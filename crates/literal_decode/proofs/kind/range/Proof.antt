@@ -9,5 +9,5 @@ use Rattle.literal_decode.proofs.kind.range.Tie as tie
 returns : tie.Need-returns
 returns c = span-packed _ _ _ (omega arith) (omega arith)
 
-pub range-spec : {M : Type 1} → statement M
-range-spec = tie.close (tie.spec (λ c. search rules) (λ c. search rules) (λ c. search rules) (λ c. search rules) returns)
+pub range_spec : {M : Type 1} → statement M
+range_spec = tie.close (tie.spec (λ c. search rules) (λ c. search rules) (λ c. search rules) (λ c. search rules) returns)

@@ -20,5 +20,5 @@ returns-3 c =
     let at-highest = c.before in
     rw (le-leb _ _ at-highest.before.if1.false, le-leb _ _ at-highest.if2.false) c.is_in_range.ensures
 
-pub are-in-ranges-spec : {M : Type 1} → statement M
-are-in-ranges-spec = tie.close (tie.spec (λ c. search rules) returns returns-2 (λ c κs. search rules) returns-3)
+pub are_in_ranges_spec : {M : Type 1} → statement M
+are_in_ranges_spec = tie.close (tie.spec (λ c. search rules) returns returns-2 (λ c κs. search rules) returns-3)

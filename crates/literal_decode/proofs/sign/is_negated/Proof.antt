@@ -9,5 +9,5 @@ returns : tie.Need-returns
 unfolding negated_kind
 returns c = refl
 
-pub is-negated-spec : {M : Type 1} → statement M
-is-negated-spec = tie.close (tie.spec returns)
+pub is_negated_spec : {M : Type 1} → statement M
+is_negated_spec = tie.close (tie.spec returns)

@@ -14,5 +14,5 @@ returns-2 : tie.Need-returns-2
 unfolding signed_atom
 returns-2 c = rw (sym c.before.is-negated.ensures ∙ c.if1.false)
 
-pub sign-spec : {M : Type 1} → statement M
-sign-spec = tie.close (tie.spec (λ c κs. search rules) returns returns-2)
+pub sign_spec : {M : Type 1} → statement M
+sign_spec = tie.close (tie.spec (λ c κs. search rules) returns returns-2)

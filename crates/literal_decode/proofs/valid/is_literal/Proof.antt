@@ -12,5 +12,5 @@ returns c =
     let a = at-kind.before.before.before.args in
     c.are-in-ranges.ensures ∙ sym (valid-behind a.lim a.s.now _ _ at-kind.before.fields_at.ensures at-kind.decode-kind.ensures)
 
-pub is-literal-spec : {M : Type 1} → statement M
-is-literal-spec = tie.close (tie.spec (λ c κs. search rules) (λ c κs. search rules) (λ c κs. search rules) returns)
+pub is_literal_spec : {M : Type 1} → statement M
+is_literal_spec = tie.close (tie.spec (λ c κs. search rules) (λ c κs. search rules) (λ c κs. search rules) returns)

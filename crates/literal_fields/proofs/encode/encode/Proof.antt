@@ -18,7 +18,7 @@ returns c =
     rw (at-number.put-number2.ensures, at_tag.put-number.ensures, at-kind.put_byte.ensures, at_fields.fields-of.ensures)
     (write-fields a.out.now a.at a.l (omega arith))
 
-pub encode-spec : {M : Type 1} → statement M
-encode-spec =
+pub encode_spec : {M : Type 1} → statement M
+encode_spec =
     tie.close (tie.spec (λ c κs. search rules) (λ c κs. search rules) (λ c. search rules) (λ c κs. search rules) (λ c. search rules)
     (λ c κs. search rules) (λ c. search rules) returns)

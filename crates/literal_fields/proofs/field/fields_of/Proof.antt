@@ -20,7 +20,7 @@ returns-3 c =
 returns-4 : tie.Need-returns-4
 returns-4 c = rw c.before.l4.given.1 (sym (fields-rule _))
 
-pub fields-of-spec : {M : Type 1} → statement M
-fields-of-spec =
+pub fields_of_spec : {M : Type 1} → statement M
+fields_of_spec =
     tie.close (tie.spec (λ c. search rules) (λ c κs. search rules) (λ c. search rules) (λ c κs. search rules) (λ c. search rules)
     (λ c κs. search rules) (λ c. search rules) returns returns-2 returns-3 returns-4)

@@ -10,5 +10,5 @@ returns c = rw c.before.a.given.1
 returns-2 : tie.Need-returns-2
 returns-2 c = rw c.before.a2.given.1
 
-pub fields-signed-spec : {M : Type 1} → statement M
-fields-signed-spec = tie.close (tie.spec (λ c. search rules) (λ c. search rules) (λ c. search rules) returns returns-2)
+pub fields_signed_spec : {M : Type 1} → statement M
+fields_signed_spec = tie.close (tie.spec (λ c. search rules) (λ c. search rules) (λ c. search rules) returns returns-2)

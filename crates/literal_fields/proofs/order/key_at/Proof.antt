@@ -13,5 +13,5 @@ unfolding key_at
 returns c =
     c.make-key.ensures ∙ ap (λ (f : Fields). key_of f.kind f.tag.0 f.number) c.before.fields_at.ensures
 
-pub key-at-spec : {M : Type 1} → statement M
-key-at-spec = tie.close (tie.spec (λ c κs. search rules) (λ c κs. search rules) returns)
+pub key_at_spec : {M : Type 1} → statement M
+key_at_spec = tie.close (tie.spec (λ c κs. search rules) (λ c κs. search rules) returns)

@@ -12,5 +12,5 @@ unfolding key
 returns c =
     c.make-key.ensures ∙ ap (λ (f : Fields). key_of f.kind f.tag.0 f.number) c.before.fields-of.ensures
 
-pub key-of-spec : {M : Type 1} → statement M
-key-of-spec = tie.close (tie.spec (λ c κs. search rules) (λ c κs. search rules) returns)
+pub key_of_spec : {M : Type 1} → statement M
+key_of_spec = tie.close (tie.spec (λ c κs. search rules) (λ c κs. search rules) returns)

@@ -10,5 +10,5 @@ returns c = rw (eq-eqb _ _ c.if1.true)
 returns-2 : tie.Need-returns-2
 returns-2 c = rw (ne_eqb _ _ c.if1.false)
 
-pub count-record-spec : {M : Type 1} → statement M
-count-record-spec = tie.close (tie.spec returns returns-2)
+pub count_record_spec : {M : Type 1} → statement M
+count_record_spec = tie.close (tie.spec returns returns-2)

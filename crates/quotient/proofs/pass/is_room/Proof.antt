@@ -22,5 +22,5 @@ returns-2 c w =
     let at-if1 = c.before in
     ap (λ n. leb n at-if1.before.before.before.args.room) (c.measure-quotient.ensures w)
 
-pub is-room-spec : {M : Type 1} → statement M
-is-room-spec = tie.close (tie.spec returns (λ c κs. c.before.before.before.requires) returns-2)
+pub is_room_spec : {M : Type 1} → statement M
+is_room_spec = tie.close (tie.spec returns (λ c κs. c.before.before.before.requires) returns-2)

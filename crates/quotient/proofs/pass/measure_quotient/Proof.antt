@@ -80,8 +80,8 @@ returns c w =
     let at-loop = c.before.before in
     along-end (at-loop.loop.invariant w) c.if1.false ∙ sym (length-quotient (members at-loop) w.program)
 
-pub measure-quotient-spec : {M : Type 1} → statement M
-measure-quotient-spec =
+pub measure_quotient_spec : {M : Type 1} → statement M
+measure_quotient_spec =
     tie.close (tie.spec invariant-loop decreases-loop loop-holds (λ c. omega (arith, opens c.before)) (λ c. omega (arith, opens c.before.before))
     (λ c. omega (arith, opens c.before.before)) (λ c. search rules) (λ c κs. ((next c).whole, (loop-of c).before.before.before.requires.1))
     add_total (λ c κs. omega (arith, (next c.before).whole)) (λ c. omega (arith, (next c.before.before).fits, c.record-size.ensures))

@@ -136,8 +136,8 @@ returns c =
       λ w. made-end (along-end (at-loop.loop.invariant.1 w) at-if.if1.false) at-end.write-end.ensures,
     )
 
-pub write-quotient-spec : {M : Type 1} → statement M
-write-quotient-spec =
+pub write_quotient_spec : {M : Type 1} → statement M
+write_quotient_spec =
     tie.close (tie.spec invariant-loop decreases-loop
     (λ c. let a = c.before.before.before.args in (refl, pass-start a.s.now _ (made-start (key_set a.set.now a.count) a.out.now)))
     (λ c. omega (arith, opens c.before)) (λ c. omega (arith, opens c.before.before)) (λ c. omega (arith, opens c.before.before))

@@ -171,8 +171,8 @@ sheets-divide-meant-requires t c κs =
 sheets-returns : (t : ℕ) → divide-sheets-lts.Need-returns (divide-sheets-claims t) (divide-sheets-at t) divide-sheets.Post
 sheets-returns t c = let at-meant = c.before.before.before in at-meant.divide-meant.ensures
 
-pub +divide-meant-divide-sheets-spec : {M : Type 1} → statement M
-+divide-meant-divide-sheets-spec =
+pub +divide_meant_divide_sheets_spec : {M : Type 1} → statement M
++divide_meant_divide_sheets_spec =
     close μ-divide-meant μ-divide-sheets
     (λ t. divide-meant-lts.spec (divide-meant-claims t) (divide-meant-at t) divide-meant.Post (meant-divide-program-requires t)
     (λ c. search rules) (meant-returns t) (meant-divide-sheets-requires t) (λ c. search rules) (meant-returns-2 t)

@@ -59,6 +59,6 @@ returns-2 c =
     read-met a.lim a.s.now a.k.now a.out.now start.pre.0 (given at_told) (bytes (read_of at_told)) a.s.now (same at_told)
     at-divide.divide-program.ensures
 
-pub divide-spec : {M : Type 1} → statement M
-divide-spec =
+pub divide_spec : {M : Type 1} → statement M
+divide_spec =
     tie.close (tie.spec (λ c κs. search rules) (λ c. search rules) (λ c. search rules) divide-program-requires returns (λ c. search rules) returns-2)

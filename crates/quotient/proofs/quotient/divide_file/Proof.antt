@@ -83,7 +83,7 @@ returns-3 c =
     read-met a.lim a.s.now a.k.now a.out.now start.pre.0 (given at_told) (bytes (read_of at_told)) a.s.now (same at-if)
     at-divide.divide-program.ensures
 
-pub divide-file-spec : {M : Type 1} → statement M
-divide-file-spec =
+pub divide_file_spec : {M : Type 1} → statement M
+divide_file_spec =
     tie.close (tie.spec (λ c κs. search rules) (λ c. search rules) (λ c. search rules) (λ c κs. search rules) (λ c. search rules) divide-meant-requires
     (λ c. search rules) returns divide-program-requires returns-2 (λ c. search rules) returns-3)

@@ -58,5 +58,5 @@ returns-2 c w =
     written-met a.s.now a.k.now a.out.now w (bytes-s slices) (bytes-k slices) _ at_test.before.is-room.ensures
     (not-false _ at_test.if1.false) _ _ done.0 done.1
 
-pub divide-program-spec : {M : Type 1} → statement M
-divide-program-spec = tie.close (tie.spec is-room-requires returns write-quotient-requires (λ c. search rules) returns-2)
+pub divide_program_spec : {M : Type 1} → statement M
+divide_program_spec = tie.close (tie.spec is-room-requires returns write-quotient-requires (λ c. search rules) returns-2)

@@ -23,5 +23,5 @@ returns c =
     let a = at-shared-slice-known.before.args in
     met-same at-limits.limits.result plain a.s.now a.k.now a.out.now at-limits.limits.ensures at-divide.divide.ensures
 
-pub quotient-plain-spec : {M : Type 1} → statement M
-quotient-plain-spec = tie.close (tie.spec (λ c κs. search rules) divide-requires (λ c. search rules) returns)
+pub quotient_plain_spec : {M : Type 1} → statement M
+quotient_plain_spec = tie.close (tie.spec (λ c κs. search rules) divide-requires (λ c. search rules) returns)

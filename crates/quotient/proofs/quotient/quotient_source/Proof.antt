@@ -23,5 +23,5 @@ returns c =
     let a = at-shared-slice-known.before.args in
     met-same at-limits.limits.result source a.s.now a.k.now a.out.now at-limits.limits.ensures at-divide.divide-file.ensures
 
-pub quotient-source-spec : {M : Type 1} → statement M
-quotient-source-spec = tie.close (tie.spec (λ c κs. search rules) divide-file-requires (λ c. search rules) returns)
+pub quotient_source_spec : {M : Type 1} → statement M
+quotient_source_spec = tie.close (tie.spec (λ c κs. search rules) divide-file-requires (λ c. search rules) returns)

@@ -42,7 +42,7 @@ returns c =
     let l = at-loop.loop in
     omega (arith, l.invariant.2, ap length (left-none a.t.now a.set.now a.count l.at l.left c.loop-test.false))
 
-pub count-left-spec : {M : Type 1} → statement M
-count-left-spec =
+pub count_left_spec : {M : Type 1} → statement M
+count_left_spec =
     tie.close (tie.spec invariant-loop decreases-loop (λ c. search rules) (λ c κs. search rules) add-found (λ c. search rules) (λ c. search rules)
     (λ c. search rules) loop-again returns)

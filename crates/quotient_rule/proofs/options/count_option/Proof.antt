@@ -19,5 +19,5 @@ returns-2 c =
     let a = at-is-defeated.before.before.before.args in
     sym (ap length (left-kept a.t.now a.set.now a.count a.at (sym at-is-defeated.is-defeated.ensures ∙ c.if1.false)))
 
-pub count-option-spec : {M : Type 1} → statement M
-count-option-spec = tie.close (tie.spec (λ c κs. search rules) returns returns-2)
+pub count_option_spec : {M : Type 1} → statement M
+count_option_spec = tie.close (tie.spec (λ c κs. search rules) returns returns-2)

@@ -13,5 +13,5 @@ returns c =
     rw (← at-tag-at.tag_at.ensures, ← c.before.before.option-at.ensures)
     (c.holds.ensures ∙ ap (has_key a.set.now a.count) c.before.key_of.ensures)
 
-pub is-defeated-spec : {M : Type 1} → statement M
-is-defeated-spec = tie.close (tie.spec (λ c κs. search rules) (λ c κs. search rules) (λ c κs. search rules) (λ c κs. search rules) returns)
+pub is_defeated_spec : {M : Type 1} → statement M
+is_defeated_spec = tie.close (tie.spec (λ c κs. search rules) (λ c κs. search rules) (λ c κs. search rules) (λ c κs. search rules) returns)

@@ -112,7 +112,7 @@ returns c =
       sym (l.invariant.5 ∙ ap (λ ls. write l.out l.next (encoded_literals ls)) none ∙ write-none l.out l.next),
     )
 
-pub write-left-spec : {M : Type 1} → statement M
-write-left-spec =
+pub write_left_spec : {M : Type 1} → statement M
+write_left_spec =
     tie.close (tie.spec invariant-loop decreases-loop loop-holds write-option-requires (λ c. omega (arith, fits c)) (λ c. omega (arith, fits c)) add-found
     (λ c. search rules) (λ c. search rules) (λ c. search rules) loop-again (λ c. search rules) returns)

@@ -48,5 +48,5 @@ returns-2 c =
           ∙ sym (ap (λ ls. write a.out.now a.to (encoded_literals ls)) kept ∙ write-one a.out.now a.to _),
     )
 
-pub write-option-spec : {M : Type 1} → statement M
-write-option-spec = tie.close (tie.spec (λ c κs. search rules) returns (λ c κs. search rules) encode-requires (λ c. search rules) returns-2)
+pub write_option_spec : {M : Type 1} → statement M
+write_option_spec = tie.close (tie.spec (λ c κs. search rules) returns (λ c κs. search rules) encode-requires (λ c. search rules) returns-2)

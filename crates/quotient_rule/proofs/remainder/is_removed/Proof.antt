@@ -9,7 +9,7 @@ is-any-member-requires c κs =
     let at-shared-slice-known2 = c.before.before.before in
     (search rules, (at-shared-slice-known2.before.before.requires.1.1, search rules))
 
-pub is-removed-spec : {M : Type 1} → statement M
-is-removed-spec =
+pub is_removed_spec : {M : Type 1} → statement M
+is_removed_spec =
     tie.close (tie.spec (λ c. search rules) (λ c. search rules) (λ c. search rules) (λ c. search rules) (λ c. search rules)
     (λ c. search rules) (λ c. search rules) (λ c. search rules) (λ c. search rules) is-any-member-requires (λ c. search rules))

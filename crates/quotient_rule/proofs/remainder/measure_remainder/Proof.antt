@@ -82,8 +82,8 @@ returns-4 c =
     c.before.before.if2.false) in
     omega (arith, found, long, length-option-bytes t start.pre.0 (left_at t set a.count 7 (head_count t)) (λ e. c.if3.false (found ∙ e)))
 
-pub measure-remainder-spec : {M : Type 1} → statement M
-measure-remainder-spec =
+pub measure_remainder_spec : {M : Type 1} → statement M
+measure_remainder_spec =
     tie.close (tie.spec (λ c κs. search rules) returns (λ c. search rules) (λ c. search rules) (λ c. search rules) (λ c. search rules)
     (λ c. search rules) (λ c. search rules) (λ c. search rules) (λ c. search rules) returns-2 count-left-requires returns-3 add-result-3
     mul-result-2 add-result-4 returns-4)

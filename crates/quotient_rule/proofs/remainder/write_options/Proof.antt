@@ -139,8 +139,8 @@ returns-3 c =
           ∙ ap (write d a.to) (option-bytes-some t ls (some at-if2)),
     )
 
-pub write-options-spec : {M : Type 1} → statement M
-write-options-spec =
+pub write_options_spec : {M : Type 1} → statement M
+write_options_spec =
     tie.close (tie.spec (λ c. search rules) returns (λ c. search rules) (λ c. search rules) (λ c. search rules) add-write-left
     write-left-requires (λ c. search rules) returns-2 (λ c. search rules) (λ c. search rules) (λ c. search rules) (λ c. search rules)
     (λ c. omega (arith, fits c.before)) (λ c. omega (arith, fits c.before)) (λ c. omega (arith, fits c.before)) copy-requires

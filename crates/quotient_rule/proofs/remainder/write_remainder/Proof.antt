@@ -63,7 +63,7 @@ returns-3 c =
     (sym at-is-removed.is_removed.ensures ∙ at-if2.before.before.if1.false) at-if2.if2.false in
     (at-write-strict.write-strict.ensures.0 ∙ sym (ap length same), at-write-strict.write-strict.ensures.1 ∙ sym (ap (write a.out.now a.to) same))
 
-pub write-remainder-spec : {M : Type 1} → statement M
-write-remainder-spec =
+pub write_remainder_spec : {M : Type 1} → statement M
+write_remainder_spec =
     tie.close (tie.spec is-removed-requires returns (λ c. search rules) write-options-requires (λ c. search rules) returns-2
     write-strict-requires (λ c. search rules) returns-3)

@@ -50,7 +50,7 @@ returns c =
           (omega (arith, length-header (head_count s) (positive_count s) 0)) at-write-header.write-header.ensures c.before.before.copy.ensures,
     )
 
-pub write-strict-spec : {M : Type 1} → statement M
-write-strict-spec =
+pub write_strict_spec : {M : Type 1} → statement M
+write_strict_spec =
     tie.close (tie.spec (λ c. search rules) (λ c. search rules) (λ c. search rules) (λ c. search rules) (λ c. search rules)
     (λ c. search rules) write-header-requires add-copy copy-requires (λ c. search rules) (λ c. search rules) returns)

@@ -65,8 +65,8 @@ returns-19 c = sym (ap reason_number c.enum-told19.given.1)
 returns-20 : tie.Need-returns-20
 returns-20 c = sym (ap reason_number c.enum-told20.given.1)
 
-pub reason-number-spec : {M : Type 1} → statement M
-reason-number-spec =
+pub reason_number_spec : {M : Type 1} → statement M
+reason_number_spec =
     tie.close (tie.spec (λ c. search rules) (λ c. search rules) (λ c. search rules) (λ c. search rules) (λ c. search rules) (λ c. search rules)
     (λ c. search rules) (λ c. search rules) (λ c. search rules) (λ c. search rules) (λ c. search rules) (λ c. search rules) (λ c. search rules)
     (λ c. search rules) (λ c. search rules) (λ c. search rules) (λ c. search rules) (λ c. search rules) (λ c. search rules) (λ c. search rules) returns returns-2

@@ -14,5 +14,5 @@ returns-2 : tie.Need-returns-2
 unfolding rule_count
 returns-2 c = sym (ap rule_count c.before.file2.given.1)
 
-pub count-rules-spec : {M : Type 1} → statement M
-count-rules-spec = tie.close (tie.spec (λ c. search rules) (λ c. search rules) returns returns-2)
+pub count_rules_spec : {M : Type 1} → statement M
+count_rules_spec = tie.close (tie.spec (λ c. search rules) (λ c. search rules) returns returns-2)

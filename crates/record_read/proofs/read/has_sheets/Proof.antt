@@ -21,5 +21,5 @@ returns-2 c =
     let h = c.before.before.before.args.held in
     sym (ap (λ (b : Bool). b || ltb 0 h.oppositions) (le-ltb 0 h.overrides c.before.if1.false))
 
-pub has-sheets-spec : {M : Type 1} → statement M
-has-sheets-spec = tie.close (tie.spec returns returns-2)
+pub has_sheets_spec : {M : Type 1} → statement M
+has_sheets_spec = tie.close (tie.spec returns returns-2)

@@ -146,8 +146,8 @@ returns-3 c =
     sym (at-loop.loop.inv.2 ∙ w.same ∙ left-refused (start_of at-loop).args.lim (source at-loop) (place at-hold) at_with.with-rules.result
     (omega (arith, w.few, lies at_with)) _ (found-now at-hold ∙ at_told.before.found2.given.1))
 
-pub read-items-spec : {M : Type 1} → statement M
-read-items-spec =
+pub read_items_spec : {M : Type 1} → statement M
+read_items_spec =
     tie.close (tie.spec invariant-loop decreases-loop returns loop-holds (λ c κs. (c.loop.invariant.0, c.loop.invariant.1)) (λ c κs. search rules)
     (λ c. omega (arith, lies c)) (λ c. omega (arith, lies c)) (λ c. omega (arith, lies c)) read-stop-requires hold-requires (λ c. search rules) add_at
     loop-less loop-again (λ c. search rules) returns-2 (λ c. search rules) add-t23 returns-3)

@@ -119,8 +119,8 @@ returns-3 c =
     let start = start_of at-loop in
     going-stopped start.args.held at-loop.loop.inv start.pre.1 (part at-loop) (part_to_end (source at-loop) at-loop.loop.at) _ (body at_body)
 
-pub read-rules-spec : {M : Type 1} → statement M
-read-rules-spec =
+pub read_rules_spec : {M : Type 1} → statement M
+read_rules_spec =
     tie.close (tie.spec invariant-loop decreases-loop loop-holds (λ c. omega (arith, c.loop.invariant.within)) (λ c. omega (arith, c.loop.invariant.within))
     (λ c. omega (arith, c.loop.invariant.within)) (λ c κs. search rules) (λ c. search rules) returns (λ c. search rules) returns-2 (λ c. search rules)
     (λ c. omega (arith, whole c.before.before)) (λ c. omega (arith, whole c.before.before.before))

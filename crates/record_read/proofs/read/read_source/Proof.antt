@@ -7,5 +7,5 @@ use Rattle.record_read.proofs.read.read_source.Tie as tie
 returns : tie.Need-returns
 returns c = rw (← c.before.limits.ensures) c.read.ensures
 
-pub read-source-spec : {M : Type 1} → statement M
-read-source-spec = tie.close (tie.spec (λ c κs. search rules) (λ c κs. search rules) returns)
+pub read_source_spec : {M : Type 1} → statement M
+read_source_spec = tie.close (tie.spec (λ c κs. search rules) (λ c κs. search rules) returns)

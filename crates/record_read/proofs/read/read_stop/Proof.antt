@@ -19,6 +19,6 @@ ends c x e =
 returns : tie.Need-returns
 returns c = let at-stop = c.before in sym (ends at-stop.before.before _ at-stop.stop.given.1)
 
-pub read-stop-spec : {M : Type 1} → statement M
-read-stop-spec =
+pub read_stop_spec : {M : Type 1} → statement M
+read_stop_spec =
     tie.close (tie.spec (λ c. search rules) (λ c. search rules) (λ c κs. ends c.before.before _ c.enum_told.given.1) returns (λ c. search rules))

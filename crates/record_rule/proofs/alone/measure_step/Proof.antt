@@ -26,7 +26,7 @@ returns-5 : tie.Need-returns-5
 unfolding step_size
 returns-5 c = sym (ap step_size c.before.step4.given.1)
 
-pub measure-step-spec : {M : Type 1} → statement M
-measure-step-spec =
+pub measure_step_spec : {M : Type 1} → statement M
+measure_step_spec =
     tie.close (tie.spec (λ c. search rules) (λ c. search rules) (λ c. search rules) (λ c. search rules) (λ c. search rules) returns returns-2
     returns-3 returns-4 returns-5)

@@ -52,7 +52,7 @@ returns-2 c =
     let l = c.before.loop in
     sym (l.invariant.1 ∙ run-nil a.lim a.t.now l.at l.left c.loop-test.false)
 
-pub read-literals-alone-spec : {M : Type 1} → statement M
-read-literals-alone-spec =
+pub read_literals_alone_spec : {M : Type 1} → statement M
+read_literals_alone_spec =
     tie.close (tie.spec invariant-loop decreases-loop (λ c. search rules) (λ c. search rules) (λ c. search rules) (λ c. search rules)
     (λ c κs. search rules) returns (λ c. search rules) (λ c. search rules) (λ c. search rules) loop-again returns-2)

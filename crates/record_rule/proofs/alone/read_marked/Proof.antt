@@ -46,7 +46,7 @@ returns-3 c =
     let other = front-other _ _ _ _ at_told.enum_told.given.1 (found at_front) in
     absurd (true≢false (sym at_front.before.before.requires ∙ other-unruled _ other.other))
 
-pub read-marked-spec : {M : Type 1} → statement M
-read-marked-spec =
+pub read_marked_spec : {M : Type 1} → statement M
+read_marked_spec =
     tie.close (tie.spec (λ c κs. search rules) (λ c. search rules) (λ c. search rules) read-heads read-positives read-nafs (λ c κs. search rules)
     (λ c. search rules) (λ c κs. search rules) returns returns-2 returns-3)

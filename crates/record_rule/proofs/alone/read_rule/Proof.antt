@@ -56,8 +56,8 @@ returns-4 c =
     ∙ sym (ap size_of (only-wrong a.lim a.held a.t.now at_open.before.if1.false
     (other-unruled _ (sym at_open.open-record.ensures ∙ at_told.enum-told3.given.1))))
 
-pub read-rule-spec : {M : Type 1} → statement M
-read-rule-spec =
+pub read_rule_spec : {M : Type 1} → statement M
+read_rule_spec =
     tie.close (tie.spec (λ c κs. search rules) (λ c κs. search rules) returns (λ c κs. search rules) (λ c. search rules) read-marked-requires
     (λ c κs. search rules) (λ c. search rules) (λ c κs. search rules) (λ c κs. search rules) (λ c. search rules) (λ c κs. search rules)
     (λ c κs. search rules) returns-2 returns-3 returns-4)

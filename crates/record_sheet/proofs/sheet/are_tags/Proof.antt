@@ -20,5 +20,5 @@ returns-2 c =
     c.is-tag2.ensures
     ∙ sym (ap (λ (b : Bool). b && in_range a.lim.tags a.lower.0) (sym at_tag.is-tag.ensures ∙ not-false _ c.before.if1.false))
 
-pub are-tags-spec : {M : Type 1} → statement M
-are-tags-spec = tie.close (tie.spec (λ c κs. search rules) returns (λ c κs. search rules) returns-2)
+pub are_tags_spec : {M : Type 1} → statement M
+are_tags_spec = tie.close (tie.spec (λ c κs. search rules) returns (λ c κs. search rules) returns-2)

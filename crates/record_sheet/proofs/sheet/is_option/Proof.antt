@@ -16,5 +16,5 @@ returns-2 c =
     let a = at_literal.before.before.args in
     sym (signed-kind a.lim a.t.now (sym at_literal.is-literal.ensures ∙ not-false _ c.before.if1.false))
 
-pub is-option-spec : {M : Type 1} → statement M
-is-option-spec = tie.close (tie.spec (λ c κs. search rules) returns (λ c. search rules) returns-2)
+pub is_option_spec : {M : Type 1} → statement M
+is_option_spec = tie.close (tie.spec (λ c κs. search rules) returns (λ c. search rules) returns-2)

@@ -19,6 +19,6 @@ returns-2 c =
     let start = at-if1.before.before.before.before in
     ap₂ eqb c.before.get-number.ensures c.get-number2.ensures ∙ sym (pair-atoms start.args.t.now (eq-eqb _ _ at-if1.if1.false))
 
-pub is-pair-same-spec : {M : Type 1} → statement M
-is-pair-same-spec =
+pub is_pair_same_spec : {M : Type 1} → statement M
+is_pair_same_spec =
     tie.close (tie.spec (λ c. search rules) (λ c. search rules) returns (λ c κs. search rules) (λ c κs. search rules) returns-2)

@@ -35,5 +35,5 @@ returns-4 c =
     sym (ap₂ (λ (x y : Bool). pair_step x y a.same) (not-false a.one at-if2.before.if1.false) (not-false a.other at-if2.if2.false)
     ∙ ap (pair_step true true) c.if3.false)
 
-pub judge-pair-spec : {M : Type 1} → statement M
-judge-pair-spec = tie.close (tie.spec returns returns-2 (λ c κs. search rules) returns-3 returns-4)
+pub judge_pair_spec : {M : Type 1} → statement M
+judge_pair_spec = tie.close (tie.spec returns returns-2 (λ c κs. search rules) returns-3 returns-4)

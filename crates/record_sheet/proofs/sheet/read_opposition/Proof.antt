@@ -42,8 +42,8 @@ returns-3 c =
     c.judge-pair.ensures
     ∙ sym (opposition-pair a.lim a.held t (room at-if2.before) at-if2.if2.false ∙ pair-told one other (sym c.before.is-pair-same.ensures))
 
-pub read-opposition-spec : {M : Type 1} → statement M
-read-opposition-spec =
+pub read_opposition_spec : {M : Type 1} → statement M
+read_opposition_spec =
     tie.close (tie.spec (λ c κs. search rules) (λ c κs. search rules) returns (λ c κs. search rules) returns-2 (λ c. search rules) (λ c. search rules)
     (λ c. search rules) (λ c κs. simp (length-take, length-drop) (omega arith)) (λ c. search rules) (λ c. search rules) (λ c. search rules)
     (λ c κs. simp (length-take, length-drop) (omega arith)) (λ c κs. search rules) (λ c κs. search rules) returns-3)

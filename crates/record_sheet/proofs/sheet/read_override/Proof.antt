@@ -67,7 +67,7 @@ returns-5 c =
     ∙ sym at-tags.are-tags.ensures ∙ not-false _ at-if3.if3.false in
     sym (override-right a.lim a.held a.t.now (room at-if1) at-if2.if2.left tags (λ e. c.if4.false (upper ∙ e ∙ sym lower)))
 
-pub read-override-spec : {M : Type 1} → statement M
-read-override-spec =
+pub read_override_spec : {M : Type 1} → statement M
+read_override_spec =
     tie.close (tie.spec (λ c κs. search rules) (λ c κs. search rules) returns (λ c κs. search rules) returns-2 (λ c κs. search rules) (λ c κs. search rules)
     (λ c κs. search rules) (λ c κs. search rules) returns-3 (λ c κs. search rules) returns-4 returns-5)

@@ -72,7 +72,7 @@ returns-5 c =
     c.refuse3.ensures ∙ sym (record-unmarked a.lim a.held a.t.now start.pre.whole
     (mark_of at-if1 ∙ letter-unmarked a.lim _ (other at-if1) rest.0.1 rest.1))
 
-pub read-sheet-spec : {M : Type 1} → statement M
-read-sheet-spec =
+pub read_sheet_spec : {M : Type 1} → statement M
+read_sheet_spec =
     tie.close (tie.spec (λ c. omega (arith, (start_of c).requires.whole)) (λ c κs. search rules) returns (λ c κs. search rules) returns-2
     (λ c. omega (arith, (start_of (if1-of c.before).before).requires.whole)) (λ c κs. search rules) (λ c κs. search rules) (λ c κs. search rules) returns-3 returns-4 returns-5)

@@ -15,5 +15,5 @@ returns-2 c = sym (count-opposition _ c.match.keys2)
 returns-3 : tie.Need-returns-3
 returns-3 c = sym (count-rule _ c.match.rest.0.1 c.match.rest.1)
 
-pub count-rule-spec : {M : Type 1} → statement M
-count-rule-spec = tie.close (tie.spec returns returns-2 returns-3)
+pub count_rule_spec : {M : Type 1} → statement M
+count_rule_spec = tie.close (tie.spec returns returns-2 returns-3)

@@ -44,7 +44,7 @@ returns-2 c =
     rw told
     (record { bytes = ap (λ (k : ℕ). take k (drop e.start args.s.now)) (add-sub_cancel_left e.start e.size); block = refl; offset = refl })
 
-pub show-spec : {M : Type 1} → statement M
-show-spec =
+pub show_spec : {M : Type 1} → statement M
+show_spec =
     tie.close (tie.spec (λ c κs. search rules) (λ c. search rules) (λ c. search rules) (λ c. search rules) (λ c. search rules)
     (λ c. search rules) returns add-end (λ c. search rules) (λ c. search rules) part-result-end-2 returns-2)

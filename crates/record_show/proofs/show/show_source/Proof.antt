@@ -7,5 +7,5 @@ use Rattle.record_show.proofs.show.show_source.Tie as tie
 returns : tie.Need-returns
 returns c = rw (← c.before.limits.ensures) c.show.ensures
 
-pub show-source-spec : {M : Type 1} → statement M
-show-source-spec = tie.close (tie.spec (λ c κs. search rules) (λ c κs. search rules) returns)
+pub show_source_spec : {M : Type 1} → statement M
+show_source_spec = tie.close (tie.spec (λ c κs. search rules) (λ c κs. search rules) returns)

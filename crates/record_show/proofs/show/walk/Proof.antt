@@ -61,8 +61,8 @@ returns c w =
     let last = c.before.before.loop-test.false in
     rw c.record-size2.ensures (sym (extent-more _ (omega (arith, here-now.made, last, at-loop.loop.invariant.0)) here-now.walk (next at-loop w)))
 
-pub walk-spec : {M : Type 1} → statement M
-walk-spec =
+pub walk_spec : {M : Type 1} → statement M
+walk_spec =
     tie.close (tie.spec invariant-loop decreases-loop
     (λ c. (
       omega (arith, c.before.requires.asked.one),

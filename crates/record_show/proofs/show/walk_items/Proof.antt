@@ -109,8 +109,8 @@ loop-holds c = (
   item-pass-start c.before.args.s.now (λ gone. length (rules gone) + c.before.args.number ≡ c.before.args.number) (omega arith),
 )
 
-pub walk-items-spec : {M : Type 1} → statement M
-walk-items-spec =
+pub walk_items_spec : {M : Type 1} → statement M
+walk_items_spec =
     tie.close (tie.spec invariant-loop decreases-loop loop-holds
     (λ c. omega (arith, opens c)) (λ c. omega (arith, opens c)) (λ c. search rules) (λ c κs. large c.before)
     (λ c. let at-loop = c.before.before.before in omega (arith, opens at-loop)) (λ c κs. search rules) returns

@@ -17,5 +17,5 @@ returns-3 : tie.Need-returns-3
 unfolding keeps_counts
 returns-3 c = simp (le-leb _ _ c.before.before.before.if1.false, le-leb _ _ c.before.if2.false)
 
-pub are-counts-kept-spec : {M : Type 1} → statement M
-are-counts-kept-spec = tie.close (tie.spec returns returns-2 returns-3)
+pub are_counts_kept_spec : {M : Type 1} → statement M
+are_counts_kept_spec = tie.close (tie.spec returns returns-2 returns-3)

@@ -26,7 +26,7 @@ returns-5 : tie.Need-returns-5
 unfolding found_of
 returns-5 c = sym (ap (found_of c.before.before.before.args.held) c.before.step4.given.1)
 
-pub hold-spec : {M : Type 1} → statement M
-hold-spec =
+pub hold_spec : {M : Type 1} → statement M
+hold_spec =
     tie.close (tie.spec (λ c. search rules) (λ c. search rules) (λ c. search rules) (λ c. search rules) (λ c. search rules) (λ c. search rules)
     (λ c. search rules) (λ c. search rules) returns returns-2 returns-3 returns-4 returns-5)

@@ -33,7 +33,7 @@ loop-again c =
 returns-2 : tie.Need-returns-2 invariant-loop decreases-loop
 returns-2 c = let l = c.before.loop in sym (l.invariant.1 ∙ kinds-nil c.before.before.args.t.now l.at l.left c.loop-test.false)
 
-pub is-head-signed-spec : {M : Type 1} → statement M
-is-head-signed-spec =
+pub is_head_signed_spec : {M : Type 1} → statement M
+is_head_signed_spec =
     tie.close (tie.spec invariant-loop decreases-loop (λ c. search rules) (λ c. search rules) returns (λ c. search rules) (λ c. search rules)
     (λ c. search rules) loop-again returns-2)

@@ -13,5 +13,5 @@ returns-2 : tie.Need-returns-2
 unfolding tag_right
 returns-2 c = rw c.before.if1.false
 
-pub is-tag-right-spec : {M : Type 1} → statement M
-is-tag-right-spec = tie.close (tie.spec (λ c κs. search rules) returns returns-2)
+pub is_tag_right_spec : {M : Type 1} → statement M
+is_tag_right_spec = tie.close (tie.spec (λ c κs. search rules) returns returns-2)

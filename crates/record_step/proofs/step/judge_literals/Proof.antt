@@ -56,7 +56,7 @@ returns-5 c =
     let a = (start_of c.before).args in
     sym (ap₂ (λ (r : Run) (d : Bool). judged r d a.t.now a.heads a.size) c.before.enum_told.given.1 c.if1.false)
 
-pub judge-literals-spec : {M : Type 1} → statement M
-judge-literals-spec =
+pub judge_literals_spec : {M : Type 1} → statement M
+judge_literals_spec =
     tie.close (tie.spec (λ c. search rules) returns (λ c. search rules) (λ c κs. search rules) returns-2 (λ c κs. search rules) (λ c κs. search rules)
     returns-3 returns-4 returns-5)

@@ -47,5 +47,5 @@ returns-6 c =
     let rest = c.match.rest in
     sym (ap opening (mark-colon a.lim a.t.now at-if1.if1.false) ∙ letter-opens a.lim _ rest.0.0.1 rest.0.1 rest.1)
 
-pub open-record-spec : {M : Type 1} → statement M
-open-record-spec = tie.close (tie.spec (λ c. search rules) returns (λ c. search rules) returns-2 returns-3 returns-4 returns-5 returns-6)
+pub open_record_spec : {M : Type 1} → statement M
+open_record_spec = tie.close (tie.spec (λ c. search rules) returns (λ c. search rules) returns-2 returns-3 returns-4 returns-5 returns-6)

@@ -24,7 +24,7 @@ returns-2 c =
     c.judge-literals.ensures
     ∙ body-judged a.lim a.t.now a.heads a.positives a.nafs at-if.if1.false a.defeasible _ at_read.read-literals.ensures
 
-pub read-body-spec : {M : Type 1} → statement M
-read-body-spec =
+pub read_body_spec : {M : Type 1} → statement M
+read_body_spec =
     tie.close (tie.spec (λ c. search rules) (λ c. search rules) (λ c. search rules) (λ c. search rules) (λ c κs. search rules) returns
     (λ c κs. search rules) judge-literals-requires returns-2)

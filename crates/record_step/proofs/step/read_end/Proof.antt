@@ -29,7 +29,7 @@ returns-4 c =
     let a = at-if1.before.before.args in
     sym (end-right a.held a.t.now at-if1.if1.false (sym c.before.before.get-number.ensures ∙ c.before.if2.false) c.if3.false)
 
-pub read-end-spec : {M : Type 1} → statement M
-read-end-spec =
+pub read_end_spec : {M : Type 1} → statement M
+read_end_spec =
     tie.close (tie.spec (λ c κs. search rules) returns (λ c κs. search rules) (λ c. search rules) (λ c κs. search rules) returns-2
     (λ c κs. search rules) returns-3 returns-4)

@@ -47,7 +47,7 @@ returns-4 c h same =
     let at_open = c.before.before in
     record { whole = at_open.before.if1.false; other = sym at_open.open-record.ensures ∙ c.enum-told2.given.1 }
 
-pub read-front-spec : {M : Type 1} → statement M
-read-front-spec =
+pub read_front_spec : {M : Type 1} → statement M
+read_front_spec =
     tie.close (tie.spec (λ c κs. search rules) returns (λ c κs. search rules) (λ c. search rules) read-header-requires (λ c. search rules)
     (λ c κs. search rules) (λ c. search rules) returns-2 returns-3 returns-4)

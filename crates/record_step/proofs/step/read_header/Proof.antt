@@ -74,8 +74,8 @@ returns-5 c =
       form = start.pre;
     }
 
-pub read-header-spec : {M : Type 1} → statement M
-read-header-spec =
+pub read_header_spec : {M : Type 1} → statement M
+read_header_spec =
     tie.close (tie.spec (λ c κs. search rules) returns (λ c κs. search rules) returns-2 (λ c κs. search rules) (λ c κs. search rules)
     (λ c κs. search rules) returns-3 (λ c. search rules) cast-are-counts-kept (λ c. search rules) cast-are-counts-kept-2 (λ c. search rules)
     cast-are-counts-kept-3 (λ c κs. search rules) (λ c κs. search rules) returns-4 returns-5)

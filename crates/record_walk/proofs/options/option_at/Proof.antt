@@ -14,5 +14,5 @@ returns c =
     let at-get-atom = c.before in
     let a = at-get-atom.before.before.before.args in c.sign.ensures ∙ ap (signed_atom (get_or a.s.now a.at 0)) at-get-atom.get-atom.ensures
 
-pub option-at-spec : {M : Type 1} → statement M
-option-at-spec = tie.close (tie.spec (λ c. search rules) (λ c. search rules) (λ c κs. search rules) (λ c κs. search rules) returns)
+pub option_at_spec : {M : Type 1} → statement M
+option_at_spec = tie.close (tie.spec (λ c. search rules) (λ c. search rules) (λ c κs. search rules) (λ c κs. search rules) returns)

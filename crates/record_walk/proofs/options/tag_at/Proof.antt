@@ -10,5 +10,5 @@ returns : tie.Need-returns
 unfolding tag_at
 returns c = ap (λ n. record { 0 = n }) c.get_tag.ensures
 
-pub tag-at-spec : {M : Type 1} → statement M
-tag-at-spec = tie.close (tie.spec (λ c κs. search rules) returns)
+pub tag_at_spec : {M : Type 1} → statement M
+tag_at_spec = tie.close (tie.spec (λ c κs. search rules) returns)

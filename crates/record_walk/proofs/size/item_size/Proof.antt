@@ -18,5 +18,5 @@ returns-3 c =
     let a = at-match.before.before.before.args in
     c.record-size.ensures ∙ sym (size-rule a.t.now at-match.match.rest.0.1 at-match.match.rest.1)
 
-pub item-size-spec : {M : Type 1} → statement M
-item-size-spec = tie.close (tie.spec (λ c. search rules) (λ c κs. search rules) returns returns-2 returns-3)
+pub item_size_spec : {M : Type 1} → statement M
+item_size_spec = tie.close (tie.spec (λ c. search rules) (λ c κs. search rules) returns returns-2 returns-3)

@@ -16,7 +16,7 @@ returns c =
     let at-put-number = c.before.before in
     let a = at-put-number.before.before.before.args in end-stores a.out.now _ a.to a.rules (omega arith) at-put-number.put-number.ensures
 
-pub write-end-spec : {M : Type 1} → statement M
-write-end-spec =
+pub write_end_spec : {M : Type 1} → statement M
+write_end_spec =
     tie.close (tie.spec (λ c. search rules) (λ c. search rules) (λ c. simp length-set (omega arith)) (λ c. search rules)
     (λ c κs. simp length-set (omega arith)) same_length returns)

@@ -25,7 +25,7 @@ returns c =
     let a = start.args in refusal-stores a.out.now _ _ a.x _ start.requires.1 at-reason-number.reason-number.ensures
     at-put-number.put-number.ensures c.before.before.put-number2.ensures
 
-pub write-refusal-spec : {M : Type 1} → statement M
-write-refusal-spec =
+pub write_refusal_spec : {M : Type 1} → statement M
+write_refusal_spec =
     tie.close (tie.spec (λ c κs. search rules) (λ c. search rules) (λ c. simp length-set (omega arith)) (λ c. simp length-set (omega arith))
     (λ c. search rules) (λ c κs. simp length-set (omega arith)) (λ c. search rules) put-number-requires-2 same_length returns)

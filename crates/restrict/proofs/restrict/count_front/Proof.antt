@@ -40,7 +40,7 @@ returns-2 c =
     let l = c.before.loop in
     sym (l.invariant.2 ∙ front-end a.k.now l.at l.held a.count (omega (arith, c.loop-test.false)))
 
-pub count-front-spec : {M : Type 1} → statement M
-count-front-spec =
+pub count_front_spec : {M : Type 1} → statement M
+count_front_spec =
     tie.close (tie.spec invariant-loop decreases-loop loop-holds (λ c. search rules) returns (λ c. search rules) (λ c. search rules) (λ c. search rules)
     loop-again returns-2)

@@ -69,8 +69,8 @@ returns-3 c =
     restricted-written a.lim a.k.now a.out.now (held-now at_count) at_test.if1.false
     at_front.write-set-header.ensures at_copy.copy.ensures
 
-pub restrict-spec : {M : Type 1} → statement M
-restrict-spec =
+pub restrict_spec : {M : Type 1} → statement M
+restrict_spec =
     tie.close (tie.spec (λ c κs. search rules) (λ c. search rules) (λ c. search rules) count-front-requires
     (λ c. omega (arith, (held-now c).counted)) (λ c. omega (arith, (held-now c).counted)) returns
     (λ c. omega (arith, (held-now c.before).counted)) (λ c κs. search rules) copy-requires returns-2 (λ c. search rules) returns-3)

@@ -13,5 +13,5 @@ returns c =
     let a = at-limits.before.before.before.args in
     restricted-same at-limits.limits.result plain a.k.now a.out.now at-limits.limits.ensures at-restrict.restrict.ensures
 
-pub restrict-plain-spec : {M : Type 1} → statement M
-restrict-plain-spec = tie.close (tie.spec (λ c κs. search rules) (λ c κs. search rules) (λ c. search rules) returns)
+pub restrict_plain_spec : {M : Type 1} → statement M
+restrict_plain_spec = tie.close (tie.spec (λ c κs. search rules) (λ c κs. search rules) (λ c. search rules) returns)

@@ -17,7 +17,7 @@ returns c =
     let a = at-end.before.before.before.args in
     set-header-stores a.out.now _ a.count (omega arith) at-end.put-number.ensures
 
-pub write-set-header-spec : {M : Type 1} → statement M
-write-set-header-spec =
+pub write_set_header_spec : {M : Type 1} → statement M
+write_set_header_spec =
     tie.close (tie.spec (λ c. search rules) (λ c. simp length-set (omega arith)) (λ c κs. simp length-set (omega arith)) same_length
     returns)

@@ -72,7 +72,7 @@ returns-2 c =
     let l = at-loop.loop in
     sym (l.invariant.1 ∙ any-key-none a.set.now a.count a.t.now l.left l.at c.loop-test.false)
 
-pub is-any-member-spec : {M : Type 1} → statement M
-is-any-member-spec =
+pub is_any_member_spec : {M : Type 1} → statement M
+is_any_member_spec =
     tie.close (tie.spec invariant-loop decreases-loop (λ c. search rules) (λ c. search rules) (λ c. search rules) (λ c. search rules) key-at-requires
     (λ c κs. search rules) returns (λ c. search rules) (λ c. search rules) (λ c. search rules) loop-again returns-2)

@@ -11,5 +11,5 @@ returns c =
     let a = c.before.before.before.args in
     c.holds.ensures ∙ ap (has_key a.set.now a.count) c.before.key_of.ensures
 
-pub is-member-spec : {M : Type 1} → statement M
-is-member-spec = tie.close (tie.spec (λ c κs. search rules) (λ c κs. search rules) returns)
+pub is_member_spec : {M : Type 1} → statement M
+is_member_spec = tie.close (tie.spec (λ c κs. search rules) (λ c κs. search rules) returns)

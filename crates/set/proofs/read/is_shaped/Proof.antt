@@ -33,7 +33,7 @@ returns-4 c =
     ap (λ n. eqb (length a.s.now) (4 + 5 * n)) c.get-number.ensures
     ∙ sym (shape-marked a.s.now at-if1.if1.false at-if2.if2.false c.before.if3.false)
 
-pub is-shaped-spec : {M : Type 1} → statement M
-is-shaped-spec =
+pub is_shaped_spec : {M : Type 1} → statement M
+is_shaped_spec =
     tie.close (tie.spec returns (λ c. search rules) returns-2 (λ c. search rules) returns-3 (λ c κs. search rules) (λ c. search rules)
     (λ c. search rules) (λ c. search rules) returns-4)

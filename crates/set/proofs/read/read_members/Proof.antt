@@ -73,8 +73,8 @@ returns-3 c =
     let l = c.before.loop in
     sym (l.invariant.1 ∙ above-nil a.lim a.s.now l.at l.last l.left c.loop-test.false)
 
-pub read-members-spec : {M : Type 1} → statement M
-read-members-spec =
+pub read_members_spec : {M : Type 1} → statement M
+read_members_spec =
     tie.close (tie.spec invariant-loop decreases-loop (λ c. search rules) (λ c. search rules) (λ c. search rules) (λ c. search rules)
     (λ c κs. search rules) (λ c κs. search rules) returns (λ c. search rules) (λ c. search rules) (λ c. search rules) (λ c κs. search rules)
     (λ c κs. search rules) returns-2 (λ c. search rules) (λ c. search rules) (λ c. search rules) loop-again returns-3)

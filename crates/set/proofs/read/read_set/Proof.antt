@@ -69,7 +69,7 @@ returns-4 c =
     sym (answer-member a.lim a.most s shape (omega (arith, count, at_room.if2.false))
     (λ i. (at_test.before.before.shared-slice-known.given i).fits) _ run)
 
-pub read-set-spec : {M : Type 1} → statement M
-read-set-spec =
+pub read_set_spec : {M : Type 1} → statement M
+read_set_spec =
     tie.close (tie.spec (λ c κs. search rules) (λ c κs. search rules) returns get-number-requires (λ c. search rules) (λ c κs. search rules)
     returns-2 read-members-requires (λ c. search rules) (λ c. search rules) returns-3 returns-4)

@@ -78,7 +78,7 @@ returns-3 c =
     ap (λ k. eqb k a.wanted) c.member-key2.ensures
     ∙ sym (part-one a.set.now a.wanted a.count l.base l.size l.invariant (omega (arith, c.before.loop-test.false)))
 
-pub holds-spec : {M : Type 1} → statement M
-holds-spec =
+pub holds_spec : {M : Type 1} → statement M
+holds_spec =
     tie.close (tie.spec invariant-loop decreases-loop returns returns-2 loop-holds (λ c. search rules) (λ c κs. search rules) weigh-requires mul-base
     add-base (λ c. search rules) (λ c. search rules) loop-again (λ c κs. search rules) returns-3)

@@ -13,7 +13,7 @@ returns c =
     let a = c.before.before.before.args in
     c.key-at.ensures ∙ ap key_at (part_to_end a.set.now (4 + 5 * a.i))
 
-pub member-key-spec : {M : Type 1} → statement M
-member-key-spec =
+pub member_key_spec : {M : Type 1} → statement M
+member_key_spec =
     tie.close (tie.spec (λ c. search rules) (λ c. search rules) (λ c. search rules) (λ c. search rules) (λ c. search rules)
     (λ c κs. search rules) returns)

@@ -89,7 +89,7 @@ returns-4 c =
     (part-one a.set.now a.wanted a.count l.base l.size l.invariant (omega (arith, c.before.before.loop-test.false))
     ∙ ne_eqb (member_key a.set.now l.base) a.wanted (λ e. c.if3.false (c.before.member-key2.ensures ∙ e)))
 
-pub place-of-spec : {M : Type 1} → statement M
-place-of-spec =
+pub place_of_spec : {M : Type 1} → statement M
+place_of_spec =
     tie.close (tie.spec invariant-loop decreases-loop returns returns-2 loop-holds (λ c. search rules) (λ c κs. search rules) weigh-requires mul-base
     add-base (λ c. search rules) (λ c. search rules) loop-again (λ c κs. search rules) returns-3 returns-4)

@@ -8,5 +8,5 @@ use Rattle.set.proofs.search.weigh.Tie as tie
 returns : tie.Need-returns
 returns c = weight-of c.args.key c.args.wanted c.requires.0 c.requires.1
 
-pub weigh-spec : {M : Type 1} → statement M
-weigh-spec = tie.close (tie.spec (λ c. search rules) (λ c. search rules) returns)
+pub weigh_spec : {M : Type 1} → statement M
+weigh_spec = tie.close (tie.spec (λ c. search rules) (λ c. search rules) returns)

@@ -66,8 +66,8 @@ loop-again c =
 returns : tie.Need-returns invariant-loop decreases-loop
 returns c w = along-end (c.before.before.loop.invariant w) c.if1.false ∙ sym (length-bytes w.program)
 
-pub measure-rules-spec : {M : Type 1} → statement M
-measure-rules-spec =
+pub measure_rules_spec : {M : Type 1} → statement M
+measure_rules_spec =
     tie.close (tie.spec invariant-loop decreases-loop loop-holds (λ c. omega (arith, opens c.before)) (λ c. omega (arith, opens c.before.before))
     (λ c. omega (arith, opens c.before.before)) (λ c. search rules) (λ c κs. omega (arith, (next c).whole)) add_total
     (λ c κs. omega (arith, (next c.before).whole)) (λ c. omega (arith, (next c.before.before).fits, c.record-size.ensures))

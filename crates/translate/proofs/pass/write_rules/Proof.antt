@@ -123,8 +123,8 @@ returns c w =
     let at-if = at-end.before.before in
     made-end (along-end (at-if.before.before.loop.invariant.1 w) at-if.if1.false) at-end.write-end.ensures
 
-pub write-rules-spec : {M : Type 1} → statement M
-write-rules-spec =
+pub write_rules_spec : {M : Type 1} → statement M
+write_rules_spec =
     tie.close (tie.spec invariant-loop decreases-loop
     (λ c. (refl, pass-start c.before.before.args.s.now _ (made-start c.before.before.args.out.now)))
     (λ c. omega (arith, opens c.before)) (λ c. omega (arith, opens c.before.before)) (λ c. omega (arith, opens c.before.before))

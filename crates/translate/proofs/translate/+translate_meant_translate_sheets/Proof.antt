@@ -170,8 +170,8 @@ sheets-translate-meant-requires t c κs =
 sheets-returns : (t : ℕ) → translate-sheets-lts.Need-returns (translate-sheets-claims t) (translate-sheets-at t) translate-sheets.Post
 sheets-returns t c = let at-meant = c.before.before.before in at-meant.translate-meant.ensures
 
-pub +translate-meant-translate-sheets-spec : {M : Type 1} → statement M
-+translate-meant-translate-sheets-spec =
+pub +translate_meant_translate_sheets_spec : {M : Type 1} → statement M
++translate_meant_translate_sheets_spec =
     close μ-translate-meant μ-translate-sheets
     (λ t. translate-meant-lts.spec (translate-meant-claims t) (translate-meant-at t) translate-meant.Post (meant-write-translation-requires t)
     (λ c. search rules) (meant-returns t) (meant-translate-sheets-requires t) (λ c. search rules) (meant-returns-2 t)

@@ -69,7 +69,7 @@ returns-3 c =
     read-met a.lim a.s.now a.out.now start.pre.0 (bytes (read_of at_told)) _ (held at_told)
     (sym at-if.before.has-sheets.ensures ∙ at-if.if1.false) at-write.write-translation.ensures
 
-pub translate-spec : {M : Type 1} → statement M
-translate-spec =
+pub translate_spec : {M : Type 1} → statement M
+translate_spec =
     tie.close (tie.spec (λ c κs. search rules) (λ c. search rules) (λ c. search rules) (λ c κs. search rules) (λ c. search rules) translate-meant-requires
     (λ c. search rules) returns write-translation-requires returns-2 (λ c. search rules) returns-3)

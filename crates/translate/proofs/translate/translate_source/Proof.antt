@@ -22,5 +22,5 @@ returns c =
     let start = at-limits.before.before.before in
     meets-same at-limits.limits.result source start.args.s.now start.args.out.now at-limits.limits.ensures at-translate.translate.ensures
 
-pub translate-source-spec : {M : Type 1} → statement M
-translate-source-spec = tie.close (tie.spec (λ c κs. search rules) translate-requires (λ c. search rules) returns)
+pub translate_source_spec : {M : Type 1} → statement M
+translate_source_spec = tie.close (tie.spec (λ c κs. search rules) translate-requires (λ c. search rules) returns)

@@ -27,5 +27,5 @@ returns-2 c w =
     let a = (start_of at-if.before).args in
     written-met a.s.now a.out.now w _ at-if.before.measure-rules.ensures at-if.if1.false _ at-write.write-rules.ensures
 
-pub write-translation-spec : {M : Type 1} → statement M
-write-translation-spec = tie.close (tie.spec (λ c κs. search rules) returns write-rules-requires (λ c. search rules) returns-2)
+pub write_translation_spec : {M : Type 1} → statement M
+write_translation_spec = tie.close (tie.spec (λ c κs. search rules) returns write-rules-requires (λ c. search rules) returns-2)

@@ -12,5 +12,5 @@ returns-2 : tie.Need-returns-2
 unfolding mark_of
 returns-2 c = rw c.if1.false
 
-pub mark-option-spec : {M : Type 1} → statement M
-mark-option-spec = tie.close (tie.spec returns returns-2)
+pub mark_option_spec : {M : Type 1} → statement M
+mark_option_spec = tie.close (tie.spec returns returns-2)

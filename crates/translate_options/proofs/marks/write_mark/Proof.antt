@@ -17,7 +17,7 @@ returns c =
     let same = at-encode.before.before.mark-option.ensures ∙ ap₂ (mark_of a.derived) at-tag-at.tag_at.ensures at-option-at.option-at.ensures in
     at-encode.encode.ensures ∙ ap (λ x. write a.out.now a.to (encoded x)) same
 
-pub write-mark-spec : {M : Type 1} → statement M
-write-mark-spec =
+pub write_mark_spec : {M : Type 1} → statement M
+write_mark_spec =
     tie.close (tie.spec (λ c κs. search rules) (λ c κs. search rules) (λ c κs. search rules) (λ c κs. search rules) (λ c. search rules)
     returns)

@@ -50,7 +50,7 @@ returns c =
     let s = a.s.now in
     sym (l.invariant.3 ∙ ap (write l.out l.next) (marks-none s a.derived (tag_at s) l.at l.left c.loop-test.false) ∙ write-nil l.out l.next)
 
-pub write-marks-spec : {M : Type 1} → statement M
-write-marks-spec =
+pub write_marks_spec : {M : Type 1} → statement M
+write_marks_spec =
     tie.close (tie.spec invariant-loop decreases-loop (λ c. search rules) (λ c κs. search rules) (λ c. search rules) (λ c. search rules)
     (λ c. search rules) (λ c. search rules) loop-again (λ c. search rules) returns)

@@ -15,5 +15,5 @@ returns c =
     let a = at-option-at.before.before.before.args in
     at-encode.encode.ensures ∙ ap (λ x. write a.out.now a.to (encoded (Signed x))) at-option-at.option-at.ensures
 
-pub write-option-spec : {M : Type 1} → statement M
-write-option-spec = tie.close (tie.spec (λ c κs. search rules) (λ c κs. search rules) (λ c. search rules) returns)
+pub write_option_spec : {M : Type 1} → statement M
+write_option_spec = tie.close (tie.spec (λ c κs. search rules) (λ c κs. search rules) (λ c. search rules) returns)

@@ -34,7 +34,7 @@ returns c =
     (omega (arith, length-pair 1 1 1 (mark_of true t o) (Signed o))) one c.before.before.write-mark2.ensures
     ∙ ap (write a.out.now a.to) (derived-pieces t o)
 
-pub write-derived-spec : {M : Type 1} → statement M
-write-derived-spec =
+pub write_derived_spec : {M : Type 1} → statement M
+write_derived_spec =
     tie.close (tie.spec (λ c κs. search rules) (λ c. search rules) (λ c κs. search rules) (λ c. search rules) (λ c κs. search rules)
     (λ c. search rules) (λ c κs. search rules) (λ c. search rules) returns)

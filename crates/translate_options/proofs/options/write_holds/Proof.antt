@@ -25,7 +25,7 @@ returns c =
     at_out.before.write-header.ensures at-write-option.write-option.ensures c.before.before.write-mark.ensures
     ∙ ap (write a.out.now a.to) (holds-pieces t o)
 
-pub write-holds-spec : {M : Type 1} → statement M
-write-holds-spec =
+pub write_holds_spec : {M : Type 1} → statement M
+write_holds_spec =
     tie.close (tie.spec (λ c κs. search rules) (λ c. search rules) (λ c κs. search rules) (λ c. search rules) (λ c κs. search rules)
     (λ c. search rules) returns)

@@ -24,7 +24,7 @@ returns c =
     at_out.before.write-header.ensures at-write-mark.write-mark.ensures c.before.before.write-mark2.ensures
     ∙ ap (write a.out.now a.to) (never-both-pieces t o)
 
-pub write-never-both-spec : {M : Type 1} → statement M
-write-never-both-spec =
+pub write_never_both_spec : {M : Type 1} → statement M
+write_never_both_spec =
     tie.close (tie.spec (λ c. search rules) (λ c. search rules) (λ c κs. search rules) (λ c κs. search rules) (λ c κs. search rules)
     (λ c. search rules) returns)

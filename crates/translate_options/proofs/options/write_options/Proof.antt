@@ -49,7 +49,7 @@ returns c =
     let s = a.s.now in
     sym (l.invariant.3 ∙ ap (write l.out l.next) (option-bytes-none s (tag_at s) l.at l.left c.loop-test.false) ∙ write-nil l.out l.next)
 
-pub write-options-spec : {M : Type 1} → statement M
-write-options-spec =
+pub write_options_spec : {M : Type 1} → statement M
+write_options_spec =
     tie.close (tie.spec invariant-loop decreases-loop (λ c. search rules) (λ c κs. search rules) (λ c. search rules) (λ c. search rules)
     (λ c. search rules) (λ c. search rules) loop-again (λ c. search rules) returns)

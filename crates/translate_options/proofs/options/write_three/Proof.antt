@@ -34,7 +34,7 @@ returns c =
     (omega (arith, length-append four five, length-holds t o, length-derived t o)) one c.before.before.write-never-both.ensures
     ∙ ap (write d a.to) (option-pieces t o)
 
-pub write-three-spec : {M : Type 1} → statement M
-write-three-spec =
+pub write_three_spec : {M : Type 1} → statement M
+write_three_spec =
     tie.close (tie.spec (λ c κs. search rules) (λ c. search rules) (λ c κs. search rules) (λ c. search rules) (λ c κs. search rules)
     (λ c. search rules) returns)

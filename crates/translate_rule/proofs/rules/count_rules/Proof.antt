@@ -25,5 +25,5 @@ returns-2 : tie.Need-returns-2
 unfolding count_at
 returns-2 c = rw (ne_eqb (letter_of c.before.before.before.args.s.now) defeasible_letter c.if1.false)
 
-pub count-rules-spec : {M : Type 1} → statement M
-count-rules-spec = tie.close (tie.spec (λ c. search rules) cast-heads (λ c. search rules) mul-result add-result returns returns-2)
+pub count_rules_spec : {M : Type 1} → statement M
+count_rules_spec = tie.close (tie.spec (λ c. search rules) cast-heads (λ c. search rules) mul-result add-result returns returns-2)

@@ -28,8 +28,8 @@ returns-2 : tie.Need-returns-2
 unfolding length_at
 returns-2 c = rw (ne_eqb (letter_of (known_of c.before).before.args.s.now) defeasible_letter c.if1.false)
 
-pub measure-rule-spec : {M : Type 1} → statement M
-measure-rule-spec =
+pub measure_rule_spec : {M : Type 1} → statement M
+measure_rule_spec =
     tie.close (tie.spec (λ c. search rules) (λ c. omega (arith, counts c)) (λ c. search rules) (λ c. omega (arith, counts c.before))
     (λ c. search rules) (λ c. omega (arith, counts c.before.before)) (λ c. search rules)
     (λ c. omega (arith, counts (known_of c.before))) (λ c. omega (arith, counts (known_of c.before)))

@@ -40,7 +40,7 @@ returns c =
     c.before.before.write-marks.ensures
     ∙ ap (write d a.to) (all-defeated-written a.n.0 (tag_at s) (options_at s 7 k) k (length-options-at s k 7))
 
-pub write-all-defeated-spec : {M : Type 1} → statement M
-write-all-defeated-spec =
+pub write_all_defeated_spec : {M : Type 1} → statement M
+write_all_defeated_spec =
     tie.close (tie.spec (λ c. search rules) (λ c κs. search rules) (λ c. search rules) (λ c κs. search rules) (λ c. search rules)
     (λ c. search rules) (λ c κs. search rules) (λ c. search rules) returns)

@@ -55,8 +55,8 @@ returns c =
     c.before.before.encode.ensures
     ∙ ap (write d a.to) (choice-written s t h b e w a.n.0)
 
-pub write-choice-spec : {M : Type 1} → statement M
-write-choice-spec =
+pub write_choice_spec : {M : Type 1} → statement M
+write_choice_spec =
     tie.close (tie.spec (λ c. search rules) (λ c. search rules) (λ c. search rules) (λ c. search rules) (λ c. search rules)
     (λ c. search rules) (λ c. search rules) (λ c. search rules) (λ c. search rules) (λ c. search rules) (λ c κs. search rules)
     (λ c. search rules) (λ c. search rules) (λ c κs. search rules) (λ c. search rules) (λ c. search rules) (λ c. search rules)

@@ -41,8 +41,8 @@ returns c =
     one c.before.before.write-options.ensures
     ∙ ap (write d a.to) (defeasible-written s t h b e w n)
 
-pub write-defeasible-spec : {M : Type 1} → statement M
-write-defeasible-spec =
+pub write_defeasible_spec : {M : Type 1} → statement M
+write_defeasible_spec =
     tie.close (tie.spec (λ c. search rules) (λ c. search rules) (λ c. search rules) (λ c. search rules) (λ c. search rules)
     (λ c. search rules) (λ c. search rules) (λ c. search rules) (λ c. search rules) (λ c. search rules) (λ c. search rules)
     (λ c. search rules) (λ c. search rules) (λ c. search rules) (λ c κs. search rules) (λ c κs. search rules) (λ c κs. search rules)

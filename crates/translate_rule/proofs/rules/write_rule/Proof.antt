@@ -31,7 +31,7 @@ returns-2 c =
     let a = at-shared-slice-known2.before.before.before.args in written-strict a.s.now a.n.0 a.out.now a.to _
     at-write-strict.before.before.if1.false at-write-strict.write-strict.ensures
 
-pub write-rule-spec : {M : Type 1} → statement M
-write-rule-spec =
+pub write_rule_spec : {M : Type 1} → statement M
+write_rule_spec =
     tie.close (tie.spec (λ c. search rules) write-defeasible-requires write-strict-requires (λ c. search rules) returns (λ c. search rules)
     returns-2)

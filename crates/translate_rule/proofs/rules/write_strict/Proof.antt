@@ -27,8 +27,8 @@ returns c =
     (omega (arith, length-header (head_count s) (positive_count s) (naf_count s))) at-write-header.write-header.ensures c.before.before.copy.ensures
     ∙ ap (write a.out.now a.to) (strict-written s h b k w)
 
-pub write-strict-spec : {M : Type 1} → statement M
-write-strict-spec =
+pub write_strict_spec : {M : Type 1} → statement M
+write_strict_spec =
     tie.close (tie.spec (λ c. search rules) (λ c. search rules) (λ c. search rules) (λ c. search rules) (λ c. search rules)
     (λ c. search rules) (λ c. search rules) (λ c. search rules) (λ c. search rules) (λ c κs. search rules) (λ c. search rules)
     (λ c κs. search rules) (λ c. search rules) returns)
