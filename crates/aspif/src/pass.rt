@@ -29,7 +29,7 @@ const BLOCK_TEXT: usize = 6384;
 const FIGURES: usize = 1000;
 
 // What a block's lines were made from and to: its bytes in the program, and where the lines end.
-#[derive(Drop)]
+#[derive(Clone, Copy)]
 struct Made {
     size: usize,
     next: usize,

@@ -3,7 +3,7 @@
 #![tactic(auto)]
 
 // What a state says. Before the first begin nothing is held, and bytes that are no state count as such a state.
-#[derive(Drop)]
+#[derive(Clone, Copy)]
 pub struct Standing {
     // An assembly is open: neither closed nor yet to be begun.
     pub active: bool,

@@ -3,14 +3,14 @@
 #![tactic(auto)]
 
 // What the bytes of one row come to: the most that one rule has, and the sum.
-#[derive(Drop)]
+#[derive(Clone, Copy)]
 pub struct Figures {
     pub most: u8,
     pub sum: u16,
 }
 
 // What the shapes of held rules come to: their head literals, and their body literals.
-#[derive(Drop)]
+#[derive(Clone, Copy)]
 pub struct Tally {
     pub heads: Figures,
     pub body: Figures,

@@ -5,7 +5,7 @@
 pub mod force;
 
 // What a mask must have, and what it may have. Where it is not live, no mask that is sought lies between them.
-#[derive(Drop)]
+#[derive(Clone, Copy)]
 pub struct Bounds {
     pub live: bool,
     pub must: u64,

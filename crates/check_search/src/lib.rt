@@ -5,7 +5,7 @@
 pub mod find;
 
 // The first smaller model, if there is one.
-#[derive(Drop)]
+#[derive(Clone, Copy)]
 pub struct Found {
     pub found: bool,
     pub model: u64,

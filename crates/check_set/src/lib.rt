@@ -6,7 +6,7 @@ use literal::RuleNo;
 use record::Refusal;
 
 // What a check finds. A smaller model stands as an A: record at the start of the lent output.
-#[derive(Drop)]
+#[derive(Clone, Copy)]
 pub enum Verdict {
     // The position, from 1, of the first literal whose opposite is in the set.
     Clash(usize),
@@ -18,7 +18,7 @@ pub enum Verdict {
 }
 
 // What checking a set answers.
-#[derive(Drop)]
+#[derive(Clone, Copy)]
 pub enum Check {
     Found(Verdict),
     Refused(Refusal),

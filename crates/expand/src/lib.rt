@@ -3,7 +3,7 @@
 #![tactic(auto)]
 
 // What was written: how many bytes there are, and whether sheet records are among them.
-#[derive(Drop)]
+#[derive(Clone, Copy)]
 pub struct Made {
     pub size: usize,
     pub sheeted: bool,

@@ -5,7 +5,7 @@
 pub mod collect;
 
 // What the items that are gone came to.
-#[derive(Drop)]
+#[derive(Clone, Copy)]
 pub struct Sheets {
     // Where the rules' records end.
     pub to: usize,

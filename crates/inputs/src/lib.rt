@@ -5,7 +5,7 @@
 use record::{Held, Refusal};
 
 // What reading a file and a set answers.
-#[derive(Drop)]
+#[derive(Clone, Copy)]
 pub enum Both {
     // What the file holds, and how many literals the set has.
     Read(Held, usize),

@@ -6,7 +6,7 @@ ghost use Rattle.literal.specs.Limits.{plain, source};
 use crate::{Kinds, Limits};
 
 // Programs with defeasible rules.
-#[derive(Drop)]
+#[derive(Clone, Copy)]
 pub struct Source {}
 
 impl Source {
@@ -58,7 +58,7 @@ impl Source {
 }
 
 // Programs of strict rules alone: translations and quotients.
-#[derive(Drop)]
+#[derive(Clone, Copy)]
 pub struct Plain {}
 
 impl Plain {

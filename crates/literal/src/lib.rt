@@ -5,25 +5,25 @@
 #![tactic(auto)]
 
 // A tag of defeasible rules, 1 to 200. Rules share tags, so a tag is no rule number.
-#[derive(Drop)]
+#[derive(Clone, Copy)]
 pub struct Tag(pub u16);
 
 // A rule's number, its position from 1. In a rule-defeated mark it runs from 1 to 256.
-#[derive(Drop)]
+#[derive(Clone, Copy)]
 pub struct RuleNo(pub u16);
 
 // An atom's number, 1 to 500.
-#[derive(Drop)]
+#[derive(Clone, Copy)]
 pub struct Atom(pub u16);
 
 // An atom, or its explicit negation.
-#[derive(Drop)]
+#[derive(Clone, Copy)]
 pub enum SignedAtom {
     Positive(Atom),
     Negative(Atom),
 }
 
-#[derive(Drop)]
+#[derive(Clone, Copy)]
 pub enum Literal {
     // Kinds 0 and 1: what a program is about.
     Signed(SignedAtom),
@@ -36,7 +36,7 @@ pub enum Literal {
 }
 
 // The three fields that five bytes spell. What the third is, an atom or a rule's number, the kind says.
-#[derive(Drop)]
+#[derive(Clone, Copy)]
 pub struct Fields {
     pub kind: u8,
     // 0 where no tag is due.
@@ -45,7 +45,7 @@ pub struct Fields {
 }
 
 // The kinds of literals that a form has.
-#[derive(Drop)]
+#[derive(Clone, Copy)]
 pub enum Kinds {
     // 0 to 3: what a program is about, and defeat marks.
     SourceKinds,
@@ -55,11 +55,11 @@ pub enum Kinds {
 
 // What may stand behind a kind byte: tags from a lowest to a highest one, and atoms or rule numbers from 1 to a largest one. The
 // three bounds are one number, two bytes each, so that the kind picks them at once. Where no number may stand, nothing may.
-#[derive(Drop)]
+#[derive(Clone, Copy)]
 pub struct Ranges(pub u64);
 
 // A form's row of limits: the largest values that it takes.
-#[derive(Drop)]
+#[derive(Clone, Copy)]
 pub struct Limits {
     // Bytes and rules of a program.
     pub length: usize,

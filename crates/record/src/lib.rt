@@ -3,7 +3,7 @@
 #![tactic(auto)]
 
 // Why an operation refuses. Document 01's number of each reason is `reason_number` of specs/Refusal.antt.
-#[derive(Drop)]
+#[derive(Clone, Copy)]
 pub enum Reason {
     // The slice is longer than the form's programs.
     TooLong,
@@ -47,7 +47,7 @@ pub enum Reason {
     OutOfTurn,
 }
 
-#[derive(Drop)]
+#[derive(Clone, Copy)]
 pub struct Refusal {
     pub reason: Reason,
     // An offset in the slice that is refused.
@@ -55,7 +55,7 @@ pub struct Refusal {
 }
 
 // What reading a program, or a set, answers.
-#[derive(Drop)]
+#[derive(Clone, Copy)]
 pub enum Reading {
     // The number of rules, or of literals.
     Count(usize),
@@ -63,7 +63,7 @@ pub enum Reading {
 }
 
 // What an operation that writes a result answers.
-#[derive(Drop)]
+#[derive(Clone, Copy)]
 pub enum Written {
     // The number of bytes written.
     Length(usize),
@@ -71,7 +71,7 @@ pub enum Written {
 }
 
 // How many items of each kind a part of a file holds.
-#[derive(Drop)]
+#[derive(Clone, Copy)]
 pub struct Held {
     pub rules: usize,
     pub overrides: usize,
@@ -79,21 +79,21 @@ pub struct Held {
 }
 
 // What reading a file's items answers.
-#[derive(Drop)]
+#[derive(Clone, Copy)]
 pub enum Holding {
     All(Held),
     Refused(Refusal),
 }
 
 // What reading a run of literals finds.
-#[derive(Drop)]
+#[derive(Clone, Copy)]
 pub enum Run {
     Right,
     Refused(Refusal),
 }
 
 // What reading one record finds. Places are counted from the record's first byte.
-#[derive(Drop)]
+#[derive(Clone, Copy)]
 pub enum Step {
     // A rule's record of so many bytes.
     Rule(usize),
@@ -105,7 +105,7 @@ pub enum Step {
 }
 
 // What reading one record leaves to be read: the part behind it, with what is held by then, or nothing.
-#[derive(Drop)]
+#[derive(Clone, Copy)]
 pub enum Found {
     Next(usize, Held),
     End,

@@ -5,7 +5,7 @@
 use record::Step;
 
 // What ends a run of rules.
-#[derive(Drop)]
+#[derive(Clone, Copy)]
 pub enum Stop {
     // A record that was read: the end, or a refusal.
     Told(Step),
@@ -14,7 +14,7 @@ pub enum Stop {
 }
 
 // A run of rules that was read: where it ends, how many rules are held then, and what ends it.
-#[derive(Drop)]
+#[derive(Clone, Copy)]
 pub struct Rules {
     pub at: usize,
     pub rules: usize,

@@ -5,14 +5,14 @@
 use record::Refusal;
 
 // Where a record lies in its slice.
-#[derive(Drop)]
+#[derive(Clone, Copy)]
 pub struct Extent {
     pub start: usize,
     pub size: usize,
 }
 
 // What showing a rule's record answers.
-#[derive(Drop)]
+#[derive(Clone, Copy)]
 pub enum Shown {
     At(Extent),
     Refused(Refusal),

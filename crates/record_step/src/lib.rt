@@ -5,7 +5,7 @@
 use record::Step;
 
 // How a record starts, as far as rules go.
-#[derive(Drop)]
+#[derive(Clone, Copy)]
 pub enum Opening {
     // S: or D:, the latter of a defeasible rule.
     Rule(bool),
@@ -15,7 +15,7 @@ pub enum Opening {
 }
 
 // What stands before a record's literals.
-#[derive(Drop)]
+#[derive(Clone, Copy)]
 pub enum Front {
     // All of the record: the end, or a refusal.
     Told(Step),

@@ -7,7 +7,7 @@ use Rattle.decimal.proofs.decimal.pack_four.Statement.{statement}
 use Rattle.decimal.proofs.decimal.pack_four.Tie as tie
 
 -- ten times the tens are no more than the pairs
-sub-result : tie.Need-overflow-sub-result
+sub-result : tie.Need-overflow_sub-result
 sub-result c = tens-fit c.args.n c.requires
 
 returns : tie.Need-returns

@@ -12,29 +12,26 @@ use Rattle.decimal.proofs.decimal.write_few.Statement.{statement}
 use Rattle.decimal.proofs.decimal.write_few.Tie as tie
 
 -- how many figures there are
-three : (c : tie.Then1) → length (decimal c.before.args.n) ≡ 3
-three c = ap length (decimal-three c.before.args.n c.if1.true c.before.requires.0)
+three : (c : tie.Then-n-ge100) → length (decimal c.args.n) ≡ 3
+three c = ap length (decimal-three c.args.n c.if-n-ge100.true c.requires.0)
 
-two : (c : tie.Then2) → length (decimal c.before.before.args.n) ≡ 2
-two c = ap length (decimal-two c.before.before.args.n c.if2.true c.before.if1.false)
+two : (c : tie.Then-n-ge10) → length (decimal c.args.n) ≡ 2
+two c = ap length (decimal-two c.args.n c.if-n-ge10.true c.if-n-ge100.false)
 
-one : (c : tie.Else2) → length (decimal c.before.before.args.n) ≡ 1
-one c = length-less c.before.before.args.n c.if2.false
+one : (c : tie.Else-n-ge10) → length (decimal c.args.n) ≡ 1
+one c = length-less c.args.n c.if-n-ge10.false
 
-returns : tie.Need-returns
+returns : tie.Need-returns-then-n-ge100
 returns c =
-    let start = c.before in
-    three-stored start.args.out.now start.args.at start.args.n start.requires.1 c.if1.true start.requires.0
+    three-stored c.args.out.now c.args.at c.args.n c.requires.1 c.if-n-ge100.true c.requires.0
 
-returns-2 : tie.Need-returns-2
+returns-2 : tie.Need-returns-then-n-ge10
 returns-2 c =
-    let start = c.before.before in
-    two-stored start.args.out.now start.args.at start.args.n start.requires.1 c.if2.true c.before.if1.false
+    two-stored c.args.out.now c.args.at c.args.n c.requires.1 c.if-n-ge10.true c.if-n-ge100.false
 
-returns-3 : tie.Need-returns-3
+returns-3 : tie.Need-returns
 returns-3 c =
-    let start = c.before.before in
-    one-stored start.args.out.now start.args.at start.args.n start.requires.1 c.if2.false
+    one-stored c.args.out.now c.args.at c.args.n c.requires.1 c.if-n-ge10.false
 
 pub write_few_spec : {M : Type 1} → statement M
 write_few_spec =

@@ -9,8 +9,7 @@ use Rattle.decimal.proofs.decimal.write_four.Tie as tie
 
 returns : tie.Need-returns
 returns c =
-    let start = c.before.before in
-    packed-stored start.args.out.now start.args.at start.args.n _ c.pack-four.ensures start.requires.1
+    packed-stored c.args.out.now c.args.at c.args.n _ c.pack_four-packed.ensures c.requires.1
 
 pub write_four_spec : {M : Type 1} → statement M
 write_four_spec =

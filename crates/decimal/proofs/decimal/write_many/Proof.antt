@@ -13,36 +13,35 @@ use Rattle.decimal.proofs.Laws.Stores.{last_stored, only-stored}
 use Rattle.decimal.proofs.decimal.write_many.Statement.{statement}
 use Rattle.decimal.proofs.decimal.write_many.Tie as tie
 
-abbrev invariant-loop : tie.invariant-loop
+abbrev invariant-loop : tie.invariant-loop-left
 invariant-loop n out₀ at end left₀ to₀ out left to =
     (to + 1 ≡ at + length (decimal left)) × (to < length out) × (length out ≡ length out₀) × (write out₀ at (decimal n) ≡ write out at (decimal left))
 
-abbrev decreases-loop : tie.decreases-loop
+abbrev decreases-loop : tie.decreases-loop-left
 decreases-loop n out₀ at end left₀ to₀ out left to = left
 
-loop-holds : tie.Need-loop-init invariant-loop decreases-loop
+loop-holds : tie.Need-loop-left-init invariant-loop decreases-loop
 loop-holds c = (omega arith, omega arith, refl, refl)
 
 -- a place is left for the tenth
-sub-to-2 : tie.Need-overflow-sub-to-2 invariant-loop decreases-loop
-sub-to-2 c = let l = c.before.loop in omega (arith, length_more l.left c.loop-test.true, length-least (l.left / 10))
+sub-to-2 : tie.Need-overflow_sub-to-in-loop-left invariant-loop decreases-loop
+sub-to-2 c = let l = c.loop-left in omega (arith, length_more l.left c.loop-left-test.true, length-least (l.left / 10))
 
-loop-again : tie.Need-loop-preserved invariant-loop decreases-loop
+loop-again : tie.Need-loop-left-preserved invariant-loop decreases-loop
 loop-again c =
-    let l = c.before.loop in
-    let start = c.before.before.before.before in (
-      omega (arith, length_more l.left c.loop-test.true, length-least (l.left / 10)),
+    let l = c.loop-left in
+    (
+      omega (arith, length_more l.left c.loop-left-test.true, length-least (l.left / 10)),
       simp length-set (omega arith),
       simp length-set (omega arith),
-      l.invariant.3 ∙ last_stored l.out start.args.at l.left l.to l.invariant.0 l.invariant.1 c.loop-test.true,
+      l.invariant.3 ∙ last_stored l.out c.args.at l.left l.to l.invariant.0 l.invariant.1 c.loop-left-test.true,
     )
 
 returns : tie.Need-returns invariant-loop decreases-loop
 returns c =
-    let l = c.before.loop in
-    let start = c.before.before.before.before in
+    let l = c.loop-left in
     record {
-      bytes = sym (l.invariant.3 ∙ only-stored l.out start.args.at l.left l.to l.invariant.0 l.invariant.1 c.loop-test.false);
+      bytes = sym (l.invariant.3 ∙ only-stored l.out c.args.at l.left l.to l.invariant.0 l.invariant.1 c.loop-left-test.false);
       next = omega arith;
     }
 

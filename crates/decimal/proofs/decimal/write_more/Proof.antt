@@ -16,18 +16,16 @@ use Rattle.decimal.proofs.decimal.write_more.Tie as tie
 long : (c : tie.Start) → length (decimal c.args.n) ≡ bool_byte (leb 10000 c.args.n) + 4
 long c = more-long c.args.n c.requires.0 c.requires.1.0
 
-write-four-requires : tie.Need-write-four-requires
+write-four-requires : tie.Need-write_four-requires
 write-four-requires c κs = (omega arith, simp length-set (omega (arith, long c.before.before)))
 
-same_length : tie.Need-same-length
-same_length c = c.before.before.write-four.auto.1.0 ∙ simp length-set
+same_length : tie.Need-shape_of-out
+same_length c = c.write_four.auto.out ∙ simp length-set
 
 returns : tie.Need-returns
 returns c =
-    let at-four = c.before.before in
-    let start = at-four.before.before.before in
-    more-stored start.args.out.now start.args.at start.args.n start.requires.1.1 start.requires.0 start.requires.1.0 _
-    at-four.write-four.ensures
+    more-stored c.args.out.now c.args.at c.args.n c.requires.1.1 c.requires.0 c.requires.1.0 _
+    c.write_four.ensures
 
 pub write_more_spec : {M : Type 1} → statement M
 write_more_spec =

@@ -10,28 +10,28 @@ use Rattle.decimal.proofs.Laws.Table.{Filled, filled_none, filled_next, filled-a
 use Rattle.decimal.proofs.table.fill_table.Statement.{statement}
 use Rattle.decimal.proofs.table.fill_table.Tie as tie
 
-abbrev invariant-loop : tie.invariant-loop
+abbrev invariant-loop : tie.invariant-loop-i
 invariant-loop table₀ k₀ i₀ table k i = (length table ≡ 1000) × (k ≡ i) × (i ≤ 1000) × Filled table i
 
-abbrev decreases-loop : tie.decreases-loop
+abbrev decreases-loop : tie.decreases-loop-i
 decreases-loop table₀ k₀ i₀ table k i = 1000 - i
 
 -- at most two powers of 10 are reached
-few : (c : tie.In-loop invariant-loop decreases-loop) → reached 2 10 c.before.loop.k ≤ 2
-few c = most-reached 2 10 c.before.loop.k
+few : (c : tie.In-loop-i invariant-loop decreases-loop) → reached 2 10 c.loop-i.k ≤ 2
+few c = most-reached 2 10 c.loop-i.k
 
-loop-again : tie.Need-loop-preserved invariant-loop decreases-loop
+loop-again : tie.Need-loop-i-preserved invariant-loop decreases-loop
 loop-again c =
-    let l = c.before.loop in (
+    let l = c.loop-i in (
       simp length-set l.invariant.0,
       omega arith,
       omega arith,
-      filled_next l.table l.i l.k _ l.invariant.3 c.loop-test.true l.invariant.1 (omega (arith, count-figures 2 l.k (omega arith))),
+      filled_next l.table l.i l.k _ l.invariant.3 c.loop-i-test.true l.invariant.1 (omega (arith, count-figures 2 l.k (omega arith))),
     )
 
 returns : tie.Need-returns invariant-loop decreases-loop
 returns c =
-    let l = c.before.loop in
+    let l = c.loop-i in
     filled-all l.table l.i l.invariant.0 (omega arith) l.invariant.3
 
 pub fill_table_spec : {M : Type 1} → statement M

@@ -3,7 +3,6 @@
 use Prim.Native.Nat.{ℕ, ◌/◌, ◌%◌, ◌≤◌}
 use native.Mathlib.Omega.{arith}
 use mathlib.Core.Path.{◌≡◌, ap, ◌∙◌}
-use mathlib.Core.Logic.{⊎_elim}
 use lib.ListN.{length, get_or}
 use borrow.Author.Rules.{rules}
 use Rattle.decimal.specs.Decimal.{decimal}
@@ -12,6 +11,7 @@ use Rattle.decimal.proofs.Laws.Decimal.{length_most}
 use Rattle.decimal.proofs.Laws.Thousands.{length-thousands, three-counted, packed-decimal, packed-fits}
 use Rattle.decimal.proofs.table.pack_decimal.Statement.{statement}
 use Rattle.decimal.proofs.table.pack_decimal.Tie as tie
+use Rattle.decimal.proofs.table.pack_decimal.Lts.{then-n-lt1000, else-n-lt1000}
 
 -- the entries
 high_is : (c : tie.Start) → get_or c.args.table.now (c.args.n / 1000) 0 ≡ three_figures (c.args.n / 1000)
@@ -21,30 +21,30 @@ low-is : (c : tie.Start) → get_or c.args.table.now (c.args.n % 1000) 0 ≡ thr
 low-is c = c.requires.1.entry (c.args.n % 1000) (omega arith)
 
 -- the count is picked
-many_is : (c : tie.After-row-known) → c.before.if1.many ≡ length (decimal c.before.before.before.before.args.n)
+many_is : (c : tie.After-row_known-1) → c.if-n-lt1000.many ≡ length (decimal c.args.n)
 many_is c =
-    let start = c.before.before.before.before in
-    let n = start.args.n in
-    ⊎_elim (λ w. w.1 ∙ three-counted (n % 1000) _ (omega arith) (low-is start) ∙ ap (λ (k : ℕ). length (decimal k)) (omega (arith, w.0.taken)))
-    (λ w. omega (arith, w.1, three-counted (n / 1000) _ (omega arith) (high_is start), length-thousands n w.0.left)) c.before.if1.branch
+    let n = c.args.n in
+    elim c.if-n-lt1000.branch [
+      then-n-lt1000 w ↦
+          w.many-is ∙ three-counted (n % 1000) _ (omega arith) (low-is c.before.before.before.before) ∙ ap (λ (k : ℕ). length (decimal k)) (omega (arith, w.if-n-lt1000.true))
+    | else-n-lt1000 w ↦
+          omega (arith, w.many-is, three-counted (n / 1000) _ (omega arith) (high_is c.before.before.before.before), length-thousands n w.if-n-lt1000.false)
+    ]
 
-few : (c : tie.After-row-known) → c.before.if1.many ≤ 6
+few : (c : tie.After-row_known-1) → c.if-n-lt1000.many ≤ 6
 few c =
-    let start = c.before.before.before.before in
-    omega (arith, many_is c, length_most 5 start.args.n (omega arith))
+    omega (arith, many_is c, length_most 5 c.args.n (omega arith))
 
-add-many : tie.Need-overflow-add-many
+add-many : tie.Need-overflow_add-many
 add-many c =
-    let start = c.before.before in
-    omega (arith, high_is start, length_most 2 (start.args.n / 1000) (omega arith))
+    omega (arith, high_is c.before.before, length_most 2 (c.args.n / 1000) (omega arith))
 
-add-result : tie.Need-overflow-add-result
+add-result : tie.Need-overflow_add-result
 add-result c = record { fits = packed-fits _ _ _ _ (omega arith) (omega arith) (few c) }
 
 returns : tie.Need-returns
 returns c =
-    let start = c.before.before.before.before in
-    packed-decimal start.args.n _ _ start.requires.0 (high_is start) (low-is start) _ (many_is c)
+    packed-decimal c.args.n _ _ c.requires.0 (high_is c.before.before.before.before) (low-is c.before.before.before.before) _ (many_is c)
 
 pub pack_decimal_spec : {M : Type 1} → statement M
 pack_decimal_spec =

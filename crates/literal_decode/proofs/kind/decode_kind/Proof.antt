@@ -7,17 +7,17 @@ use Rattle.literal.specs.Code.{span_among}
 use Rattle.literal_decode.proofs.kind.decode_kind.Statement.{statement}
 use Rattle.literal_decode.proofs.kind.decode_kind.Tie as tie
 
-returns : tie.Need-returns
+returns : tie.Need-returns-in-SourceKinds
 unfolding span_among
 returns c =
-    let a = c.before.before.before.args in
-    c.decode-source-kind.ensures ∙ sym (ap (λ (K : Kinds). span_among K a.lim a.kind) c.before.enum_told.given.1)
+    let a = c.args in
+    c.decode_source_kind.ensures ∙ sym (ap (λ (K : Kinds). span_among K a.lim a.kind) c.in-SourceKinds.is)
 
-returns-2 : tie.Need-returns-2
+returns-2 : tie.Need-returns-in-PlainKinds
 unfolding span_among
 returns-2 c =
-    let a = c.before.before.before.args in
-    c.decode-plain-kind.ensures ∙ sym (ap (λ (K : Kinds). span_among K a.lim a.kind) c.before.enum-told2.given.1)
+    let a = c.args in
+    c.decode_plain_kind.ensures ∙ sym (ap (λ (K : Kinds). span_among K a.lim a.kind) c.in-PlainKinds.is)
 
 pub decode_kind_spec : {M : Type 1} → statement M
 decode_kind_spec =

@@ -7,20 +7,17 @@ use Rattle.literal.proofs.Laws.Fields.{plain-untagged, plain-tagged, plain_other
 use Rattle.literal_decode.proofs.kind.decode_plain_kind.Statement.{statement}
 use Rattle.literal_decode.proofs.kind.decode_plain_kind.Tie as tie
 
-returns : tie.Need-returns
+returns : tie.Need-returns-in-0-to-1
 returns c =
-    let made = c.before in
-    made.before.before.range.ensures ∙ sym (plain-untagged _ _ (omega (arith, c.if1.true)))
+    c.range-atom.ensures ∙ sym (plain-untagged _ _ (omega (arith, c.in-0-to-1.if-kind-lt2-own.true)))
 
-returns-2 : tie.Need-returns-2
+returns-2 : tie.Need-returns-in-2-to-5
 returns-2 c =
-    let made = c.before.before in
-    made.before.range2.ensures ∙ sym (plain-tagged _ _ (omega (arith, c.before.if1.false)) (omega (arith, c.if2.true)))
+    c.range-mark.ensures ∙ sym (plain-tagged _ _ (omega (arith, c.in-2-to-5.if-kind-lt2-own.false)) (omega (arith, c.in-2-to-5.if-kind-lt6-own.true)))
 
-returns-3 : tie.Need-returns-3
+returns-3 : tie.Need-returns-in_default
 returns-3 c =
-    let made = c.before.before in
-    made.decode-rule-kind.ensures ∙ sym (plain_other _ _ (omega (arith, c.if2.false)))
+    c.decode_rule_kind-rule.ensures ∙ sym (plain_other _ _ (omega (arith, c.in_default.if-kind-lt6-own.false)))
 
 pub decode_plain_kind_spec : {M : Type 1} → statement M
 decode_plain_kind_spec =

@@ -7,20 +7,17 @@ use Rattle.literal.proofs.Laws.Fields.{source-untagged, source-tagged, source-re
 use Rattle.literal_decode.proofs.kind.decode_source_kind.Statement.{statement}
 use Rattle.literal_decode.proofs.kind.decode_source_kind.Tie as tie
 
-returns : tie.Need-returns
+returns : tie.Need-returns-in-0-to-1
 returns c =
-    let made = c.before in
-    made.before.before.range.ensures ∙ sym (source-untagged _ _ (omega (arith, c.if1.true)))
+    c.range-atom.ensures ∙ sym (source-untagged _ _ (omega (arith, c.in-0-to-1.if-kind-lt2-own.true)))
 
-returns-2 : tie.Need-returns-2
+returns-2 : tie.Need-returns-in-2-to-3
 returns-2 c =
-    let made = c.before.before in
-    made.before.range2.ensures ∙ sym (source-tagged _ _ (omega (arith, c.before.if1.false)) (omega (arith, c.if2.true)))
+    c.range-mark.ensures ∙ sym (source-tagged _ _ (omega (arith, c.in-2-to-3.if-kind-lt2-own.false)) (omega (arith, c.in-2-to-3.if-kind-lt4-own.true)))
 
-returns-3 : tie.Need-returns-3
+returns-3 : tie.Need-returns-in_default
 returns-3 c =
-    let made = c.before.before in
-    made.range3.ensures ∙ sym (source-refused _ _ (omega (arith, c.if2.false)))
+    c.range-refused.ensures ∙ sym (source-refused _ _ (omega (arith, c.in_default.if-kind-lt4-own.false)))
 
 pub decode_source_kind_spec : {M : Type 1} → statement M
 decode_source_kind_spec =

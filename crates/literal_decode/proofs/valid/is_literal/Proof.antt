@@ -8,9 +8,8 @@ use Rattle.literal_decode.proofs.valid.is_literal.Tie as tie
 
 returns : tie.Need-returns
 returns c =
-    let at-kind = c.before.before in
-    let a = at-kind.before.before.before.args in
-    c.are-in-ranges.ensures ∙ sym (valid-behind a.lim a.s.now _ _ at-kind.before.fields_at.ensures at-kind.decode-kind.ensures)
+    let a = c.args in
+    c.are_in_ranges.ensures ∙ sym (valid-behind a.lim a.s.now _ _ c.fields_at-f.ensures c.decode_kind-ranges.ensures)
 
 pub is_literal_spec : {M : Type 1} → statement M
 is_literal_spec = tie.close (tie.spec (λ c κs. search rules) (λ c κs. search rules) (λ c κs. search rules) returns)

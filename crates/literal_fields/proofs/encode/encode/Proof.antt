@@ -8,14 +8,8 @@ use Rattle.literal_fields.proofs.encode.encode.Tie as tie
 
 returns : tie.Need-returns
 returns c =
-    let at-number = c.before.before in
-    let at-out2 = at-number.before.before.before in
-    let at_tag = at-out2.before in
-    let at_out = at_tag.before.before.before in
-    let at-kind = at_out.before in
-    let at_fields = at-kind.before.before in
-    let a = at_fields.before.before.args in
-    rw (at-number.put-number2.ensures, at_tag.put-number.ensures, at-kind.put_byte.ensures, at_fields.fields-of.ensures)
+    let a = c.args in
+    rw (c.put_number-2.ensures, c.put_number.ensures, c.put_byte.ensures, c.fields_of-f.ensures)
     (write-fields a.out.now a.at a.l (omega arith))
 
 pub encode_spec : {M : Type 1} → statement M

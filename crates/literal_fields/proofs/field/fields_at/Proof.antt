@@ -5,7 +5,7 @@ use Rattle.literal_fields.proofs.field.fields_at.Statement.{statement}
 use Rattle.literal_fields.proofs.field.fields_at.Tie as tie
 
 returns : tie.Need-returns
-returns c = rw (← c.before.get_tag.ensures, ← c.get-number.ensures)
+returns c = rw (← c.get_tag-tag.ensures, ← c.get_number-number.ensures)
 
 pub fields_at_spec : {M : Type 1} → statement M
 fields_at_spec = tie.close (tie.spec (λ c. search rules) (λ c κs. search rules) (λ c κs. search rules) returns)

@@ -6,19 +6,19 @@ use Rattle.literal.proofs.Laws.Fields.{fields-signed, fields-defeated, fields-de
 use Rattle.literal_fields.proofs.field.fields_of.Statement.{statement}
 use Rattle.literal_fields.proofs.field.fields_of.Tie as tie
 
-returns : tie.Need-returns
-returns c = rw c.before.before.l.given.1 (c.fields-signed.ensures ∙ sym (fields-signed _))
+returns : tie.Need-returns-in-Signed
+returns c = rw c.in-Signed.is (c.fields_signed.ensures ∙ sym (fields-signed _))
 
-returns-2 : tie.Need-returns-2
+returns-2 : tie.Need-returns-in-Defeated
 returns-2 c =
-    rw c.before.before.l2.given.1 (c.fields-signed2.ensures ∙ sym (fields-defeated _ _))
+    rw c.in-Defeated.is (c.fields_signed-in-Defeated.ensures ∙ sym (fields-defeated _ _))
 
-returns-3 : tie.Need-returns-3
+returns-3 : tie.Need-returns-in-Derived
 returns-3 c =
-    rw c.before.before.l3.given.1 (c.fields-signed3.ensures ∙ sym (fields-derived _ _))
+    rw c.in-Derived.is (c.fields_signed-in-Derived.ensures ∙ sym (fields-derived _ _))
 
-returns-4 : tie.Need-returns-4
-returns-4 c = rw c.before.l4.given.1 (sym (fields-rule _))
+returns-4 : tie.Need-returns-in-RuleDefeated
+returns-4 c = rw c.in-RuleDefeated.is (sym (fields-rule _))
 
 pub fields_of_spec : {M : Type 1} → statement M
 fields_of_spec =

@@ -11,7 +11,7 @@ use Rattle.literal_fields.proofs.order.key_at.Tie as tie
 returns : tie.Need-returns
 unfolding key_at
 returns c =
-    c.make-key.ensures ∙ ap (λ (f : Fields). key_of f.kind f.tag.0 f.number) c.before.fields_at.ensures
+    c.make_key.ensures ∙ ap (λ (f : Fields). key_of f.kind f.tag.0 f.number) c.fields_at.ensures
 
 pub key_at_spec : {M : Type 1} → statement M
 key_at_spec = tie.close (tie.spec (λ c κs. search rules) (λ c κs. search rules) returns)

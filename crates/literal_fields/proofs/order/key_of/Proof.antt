@@ -10,7 +10,7 @@ use Rattle.literal_fields.proofs.order.key_of.Tie as tie
 returns : tie.Need-returns
 unfolding key
 returns c =
-    c.make-key.ensures ∙ ap (λ (f : Fields). key_of f.kind f.tag.0 f.number) c.before.fields-of.ensures
+    c.make_key.ensures ∙ ap (λ (f : Fields). key_of f.kind f.tag.0 f.number) c.fields_of.ensures
 
 pub key_of_spec : {M : Type 1} → statement M
 key_of_spec = tie.close (tie.spec (λ c κs. search rules) (λ c κs. search rules) returns)
