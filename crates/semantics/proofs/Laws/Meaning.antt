@@ -108,15 +108,15 @@ undefeated-chosen t (a ∷ h) s u e = go (s (Defeated t a)) refl (undefeated-cho
     go true e ih y = later (ih y)
     go false e ih y = here e ih (either (u (Signed a)) (some_of u (undefeated t h s)) y)
 
-pub undefeated-mem : (t : Tag) {h : List SignedAtom} (s : LiteralSet) {a : SignedAtom} → Memᴰ a h → (T (s (Defeated t a)) → ⊥)
+pub undefeated-mem : (t : Tag) {a : SignedAtom} {h : List SignedAtom} (s : LiteralSet) → Memᴰ a h → (T (s (Defeated t a)) → ⊥)
     → Memᴰ (Signed a) (undefeated t h s)
 unfolding undefeated
-undefeated-mem t s {a} (Memᴰ.head {x} {xs} e) n = go (s (Defeated t x)) refl
+undefeated-mem t {a} s (Memᴰ.head {x} {xs} e) n = go (s (Defeated t x)) refl
   where
     go : (y : Bool) → s (Defeated t x) ≡ y → Memᴰ (Signed a) (cond y (undefeated t xs s) (Signed x ∷ undefeated t xs s))
     go true q = absurd (n (subst (λ (z : SignedAtom). T (s (Defeated t z))) (sym e) (along (sym q) tt)))
     go false q = Memᴰ.head (ap Signed e)
-undefeated-mem t s {a} (Memᴰ.tail {x} {xs} m) n = go (s (Defeated t x)) (undefeated-mem t s m n)
+undefeated-mem t {a} s (Memᴰ.tail {x} {xs} m) n = go (s (Defeated t x)) (undefeated-mem t s m n)
   where
     go : (y : Bool) → Memᴰ (Signed a) (undefeated t xs s) → Memᴰ (Signed a) (cond y (undefeated t xs s) (Signed x ∷ undefeated t xs s))
     go true ih = ih

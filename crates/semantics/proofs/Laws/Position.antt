@@ -112,7 +112,7 @@ offer-found k (r ∷ p) t a y = go r (λ z. offer-found (k + 1) p t a z) (either
           mem = Memᴰ.cast (same-signed-eq a found.0 found.2) found.1;
         }
 
-pub offer-any : {k : ℕ} {p : Program} {n : ℕ} {t : Tag} {h : List SignedAtom} {b c : List Literal} {a : SignedAtom}
+pub offer-any : {n : ℕ} {t : Tag} {h : List SignedAtom} {b c : List Literal} {a : SignedAtom} {k : ℕ} {p : Program}
     → At n (defeasible t h b c) k p → Memᴰ a h → T (some_of (offers t a) p)
 unfolding offers
 offer-any {t} {h} {a} (here {q} {p} e f) m =
@@ -133,10 +133,10 @@ defeated-found k (q ∷ p) s n y =
     go ih (inl z) = (q, here (eqb→eq k n (first (eqb k n) (defeated_rule s q) z)) refl, second (eqb k n) (defeated_rule s q) z)
     go ih (inr z) = let w = ih z in (w.0, there w.1, w.2)
 
-pub defeated-at : {k : ℕ} {p : Program} (s : LiteralSet) {n : ℕ} {r : Rule} → At n r k p → T (defeated_rule s r) → T (defeated_from k p s n)
+pub defeated-at : {n : ℕ} {r : Rule} {k : ℕ} {p : Program} (s : LiteralSet) → At n r k p → T (defeated_rule s r) → T (defeated_from k p s n)
 unfolding defeated_from
-defeated-at s {n} (here {k} {q} {p} e f) d =
+defeated-at {n} s (here {k} {q} {p} e f) d =
     left (eqb k n && defeated_rule s q) (defeated_from (k + 1) p s n)
     (both (eqb k n) (defeated_rule s q) (subst (λ (m : ℕ). T (eqb k m)) e (eqb_refl k))
     (subst (λ (z : Rule). T (defeated_rule s z)) (sym f) d))
-defeated-at s {n} (there {k} {q} {p} y) d = right (eqb k n && defeated_rule s q) (defeated_from (k + 1) p s n) (defeated-at s y d)
+defeated-at {n} s (there {k} {q} {p} y) d = right (eqb k n && defeated_rule s q) (defeated_from (k + 1) p s n) (defeated-at s y d)

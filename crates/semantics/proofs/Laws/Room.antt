@@ -169,6 +169,7 @@ module _ (F G : Limits) (room : Room F G) where
     where
       at_first : {m : ℕ} {q : Rule} → At m q n (r ∷ []) → At m q n (r ∷ p)
       at_first (here e f) = here e f
+      at_first {m = m} {q = q} (there x) = elim x [ ]
 
   -- the translation keeps G's limits
   pub translation-keeps : (p : Program) → Expanded F p → T (keeps_rules G (translation p))

@@ -86,9 +86,9 @@ option-intro t s u a o =
     (kept_cons s u (holds_if_derived t a) (derived_if_holds t a ∷ never_both t a ∷ [])).1
     (four, (kept_cons s u (derived_if_holds t a) (never_both t a ∷ [])).1 (five, (kept_cons s u (never_both t a) []).1 (six, tt)))
 
-options-kept : (t : Tag) {h : List SignedAtom} (s u : LiteralSet) {a : SignedAtom} → T (kept s u (options t h)) → Memᴰ a h → Option t s u a
+options-kept : (t : Tag) {a : SignedAtom} {h : List SignedAtom} (s u : LiteralSet) → T (kept s u (options t h)) → Memᴰ a h → Option t s u a
 unfolding options
-options-kept t s u {a} y (Memᴰ.head {x} {xs} e) =
+options-kept t {a} s u y (Memᴰ.head {x} {xs} e) =
     let k = along (all_append (λ r. satisfied (remainder r s) u) (option t x) (options t xs)) y in
     subst (Option t s u) (sym e) (option-kept t s u x (first (kept s u (option t x)) (kept s u (options t xs)) k))
 options-kept t s u y (Memᴰ.tail {x} {xs} m) =
@@ -165,8 +165,8 @@ kept-split : (k : ℕ) (r : Rule) (p : Program) (s u : LiteralSet)
 unfolding translation_from
 kept-split k r p s u = all_append (λ q. satisfied (remainder q s) u) (translated_rule k r) (translation_from (k + 1) p)
 
-kept_at : {k : ℕ} {p : Program} (s u : LiteralSet) {n : ℕ} {r : Rule} → T (kept s u (translation_from k p)) → At n r k p → T (kept s u (translated_rule n r))
-kept_at s u {r} y (here {k} {q} {p} e f) =
+kept_at : {n : ℕ} {r : Rule} {k : ℕ} {p : Program} (s u : LiteralSet) → T (kept s u (translation_from k p)) → At n r k p → T (kept s u (translated_rule n r))
+kept_at {r} s u y (here {k} {q} {p} e f) =
     let z = first (kept s u (translated_rule k q)) (kept s u (translation_from (k + 1) p)) (along (kept-split k q p s u) y) in
     subst₂ (λ (m : ℕ) (w : Rule). T (kept s u (translated_rule m w))) e f z
 kept_at s u y (there {k} {q} {p} a) =

@@ -43,7 +43,7 @@ module _ {A : Type 0} where
   first_from f k (x ∷ xs) = cond (f x) (some k) (first_from f (k + 1) xs)
 
   -- where none is found, none passes, and back
-  none_passes : (f : A → Bool) (k : ℕ) {x : A} {xs : List A} → first_from f k xs ≡ none → Memᴰ x xs → T (f x) → ⊥
+  none_passes : (f : A → Bool) {x : A} (k : ℕ) {xs : List A} → first_from f k xs ≡ none → Memᴰ x xs → T (f x) → ⊥
   unfolding first_from
   none_passes f k e (Memᴰ.head {x = y} {xs} q) t =
       along (found_none (f y) k (first_from f (k + 1) xs) e).0 (subst (λ (z : A). T (f z)) q t)
