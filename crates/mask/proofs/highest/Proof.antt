@@ -19,7 +19,7 @@ shifted m p h =
     let place : 63 - count_leading_zeros 64 m ≡ j = omega (arith, top.1) in
     subst (Highest m) (sym (ap (λ (i : ℕ). 1 * 2 ^ i % 2 ^ 64) place ∙ one_shifted j (omega (arith, top.1)))) (pow-highest m j top.2 top.3)
 
-sub-result : tie.Need-overflow-sub-result
+sub-result : tie.Need-overflow_sub-result
 sub-result c = omega (arith, (leading_top 64 c.args.m c.requires c.ranges.m.fits).1)
 
 returns : tie.Need-returns

@@ -5,65 +5,65 @@ use Rattle.record.specs.Refusal.{reason_number}
 use Rattle.record.proofs.number.reason_number.Statement.{statement}
 use Rattle.record.proofs.number.reason_number.Tie as tie
 
-returns : tie.Need-returns
-returns c = sym (ap reason_number c.enum_told.given.1)
+returns : tie.Need-returns-in-TooLong
+returns c = sym (ap reason_number c.in-TooLong.is)
 
-returns-2 : tie.Need-returns-2
-returns-2 c = sym (ap reason_number c.enum-told2.given.1)
+returns-2 : tie.Need-returns-in-MarkCut
+returns-2 c = sym (ap reason_number c.in-MarkCut.is)
 
-returns-3 : tie.Need-returns-3
-returns-3 c = sym (ap reason_number c.enum-told3.given.1)
+returns-3 : tie.Need-returns-in-MarkWrong
+returns-3 c = sym (ap reason_number c.in-MarkWrong.is)
 
-returns-4 : tie.Need-returns-4
-returns-4 c = sym (ap reason_number c.enum-told4.given.1)
+returns-4 : tie.Need-returns-in-HeaderCut
+returns-4 c = sym (ap reason_number c.in-HeaderCut.is)
 
-returns-5 : tie.Need-returns-5
-returns-5 c = sym (ap reason_number c.enum-told5.given.1)
+returns-5 : tie.Need-returns-in-TooManyRules
+returns-5 c = sym (ap reason_number c.in-TooManyRules.is)
 
-returns-6 : tie.Need-returns-6
-returns-6 c = sym (ap reason_number c.enum-told6.given.1)
+returns-6 : tie.Need-returns-in-TagWrong
+returns-6 c = sym (ap reason_number c.in-TagWrong.is)
 
-returns-7 : tie.Need-returns-7
-returns-7 c = sym (ap reason_number c.enum-told7.given.1)
+returns-7 : tie.Need-returns-in-TooManyLiterals
+returns-7 c = sym (ap reason_number c.in-TooManyLiterals.is)
 
-returns-8 : tie.Need-returns-8
-returns-8 c = sym (ap reason_number c.enum-told8.given.1)
+returns-8 : tie.Need-returns-in-LiteralsCut
+returns-8 c = sym (ap reason_number c.in-LiteralsCut.is)
 
-returns-9 : tie.Need-returns-9
-returns-9 c = sym (ap reason_number c.enum-told9.given.1)
+returns-9 : tie.Need-returns-in-LiteralWrong
+returns-9 c = sym (ap reason_number c.in-LiteralWrong.is)
 
-returns-10 : tie.Need-returns-10
-returns-10 c = sym (ap reason_number c.enum-told10.given.1)
+returns-10 : tie.Need-returns-in-HeadWrong
+returns-10 c = sym (ap reason_number c.in-HeadWrong.is)
 
-returns-11 : tie.Need-returns-11
-returns-11 c = sym (ap reason_number c.enum-told11.given.1)
+returns-11 : tie.Need-returns-in-EndWrong
+returns-11 c = sym (ap reason_number c.in-EndWrong.is)
 
-returns-12 : tie.Need-returns-12
-returns-12 c = sym (ap reason_number c.enum-told12.given.1)
+returns-12 : tie.Need-returns-in-OutputShort
+returns-12 c = sym (ap reason_number c.in-OutputShort.is)
 
-returns-13 : tie.Need-returns-13
-returns-13 c = sym (ap reason_number c.enum-told13.given.1)
+returns-13 : tie.Need-returns-in-SetWrong
+returns-13 c = sym (ap reason_number c.in-SetWrong.is)
 
-returns-14 : tie.Need-returns-14
-returns-14 c = sym (ap reason_number c.enum-told14.given.1)
+returns-14 : tie.Need-returns-in-SetTooLarge
+returns-14 c = sym (ap reason_number c.in-SetTooLarge.is)
 
-returns-15 : tie.Need-returns-15
-returns-15 c = sym (ap reason_number c.enum-told15.given.1)
+returns-15 : tie.Need-returns-in-MemberWrong
+returns-15 c = sym (ap reason_number c.in-MemberWrong.is)
 
-returns-16 : tie.Need-returns-16
-returns-16 c = sym (ap reason_number c.enum-told16.given.1)
+returns-16 : tie.Need-returns-in-NoSuchRule
+returns-16 c = sym (ap reason_number c.in-NoSuchRule.is)
 
-returns-17 : tie.Need-returns-17
-returns-17 c = sym (ap reason_number c.enum-told17.given.1)
+returns-17 : tie.Need-returns-in-TooManySheets
+returns-17 c = sym (ap reason_number c.in-TooManySheets.is)
 
-returns-18 : tie.Need-returns-18
-returns-18 c = sym (ap reason_number c.enum-told18.given.1)
+returns-18 : tie.Need-returns-in-SheetCut
+returns-18 c = sym (ap reason_number c.in-SheetCut.is)
 
-returns-19 : tie.Need-returns-19
-returns-19 c = sym (ap reason_number c.enum-told19.given.1)
+returns-19 : tie.Need-returns-in-SheetSame
+returns-19 c = sym (ap reason_number c.in-SheetSame.is)
 
-returns-20 : tie.Need-returns-20
-returns-20 c = sym (ap reason_number c.enum-told20.given.1)
+returns-20 : tie.Need-returns-in-OutOfTurn
+returns-20 c = sym (ap reason_number c.in-OutOfTurn.is)
 
 pub reason_number_spec : {M : Type 1} → statement M
 reason_number_spec =
