@@ -99,6 +99,7 @@ module _ (ν : Literal → ℕ) (s : LiteralSet) (x y : NumberSet) where
       (along (all_append (kept_in x y) (constraints_of ν s l) (constraints_from ν s ls)) k)
 
   pub constraints-free : (ls : List Literal) → T (each_of (kept_in x y) (constraints_from ν s ls)) → Free ν s ls y
+  constraints-free [] k a x t = elim x [ ]
   constraints-free (l ∷ ls) k a (Memᴰ.head e) t =
       constraint-free a t (subst (λ (m : Literal). T (each_of (kept_in x y) (constraints_of ν s m))) (sym e) (split-first l ls k))
   constraints-free (l ∷ ls) k a (Memᴰ.tail w) t = constraints-free ls (split-others l ls k) a w t

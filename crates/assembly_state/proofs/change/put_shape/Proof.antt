@@ -12,14 +12,10 @@ use Rattle.assembly_state.proofs.change.put_shape.Tie as tie
 returns : tie.Need-returns
 unfolding with_shape
 returns c =
-    let at-byte2 = c.before.before in
-    let at_byte = at-byte2.before.before.before.before.before in
-    let at-number = at_byte.before.before.before.before in
-    let start = at-number.before.before.before in
-    let a = start.args in
-    at-byte2.put-byte2.ensures
+    let a = c.args in
+    c.put_byte-2.ensures
     ∙ ap (λ st. write st (8 + a.lim.rules + a.place) (a.body ∷ []))
-    (at_byte.put_byte.ensures ∙ ap (λ st. write st (8 + a.place) (a.heads ∷ [])) at-number.put-number.ensures)
+    (c.put_byte.ensures ∙ ap (λ st. write st (8 + a.place) (a.heads ∷ [])) c.put_number.ensures)
 
 pub put_shape_spec : {M : Type 1} → statement M
 put_shape_spec =

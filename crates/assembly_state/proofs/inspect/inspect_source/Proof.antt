@@ -12,8 +12,7 @@ inspect-requires c κs = subst Assemblable (sym c.limits.ensures) assemblable-so
 
 returns : tie.Need-returns
 returns c =
-    let at-limits = c.before in
-    c.inspect.ensures ∙ ap (λ F. standing_of (stage_of F at-limits.before.before.args.state.now)) at-limits.limits.ensures
+    c.inspect.ensures ∙ ap (λ F. standing_of (stage_of F c.args.state.now)) c.limits.ensures
 
 pub inspect_source_spec : {M : Type 1} → statement M
 inspect_source_spec = tie.close (tie.spec (λ c κs. search rules) inspect-requires returns)

@@ -6,14 +6,14 @@ use Rattle.assembly_state.proofs.Laws.Inspect.{heads-wrong, heads-right}
 use Rattle.assembly_state.proofs.inspect.is_within.Statement.{statement}
 use Rattle.assembly_state.proofs.inspect.is_within.Tie as tie
 
-returns : tie.Need-returns
-returns c = let a = c.before.before.before.args in sym (heads-wrong a.lim _ _ c.if1.true)
+returns : tie.Need-returns-then-lim-shapes
+returns c = let a = c.args in sym (heads-wrong a.lim _ _ c.if-lim-shapes.true)
 
-add-result : tie.Need-overflow-add-result
-add-result c = let start = c.before.before.before.before.before in omega (arith, start.requires.body)
+add-result : tie.Need-overflow_add-result
+add-result c = omega (arith, c.requires.body)
 
-returns-2 : tie.Need-returns-2
-returns-2 c = let a = c.before.before.before.before.before.args in sym (heads-right a.lim _ _ c.before.before.if1.false)
+returns-2 : tie.Need-returns
+returns-2 c = let a = c.args in sym (heads-right a.lim _ _ c.if-lim-shapes.false)
 
 pub is_within_spec : {M : Type 1} → statement M
 is_within_spec = tie.close (tie.spec (λ c. search rules) returns (λ c. search rules) add-result returns-2)

@@ -6,35 +6,32 @@ use Rattle.check_force.proofs.Laws.Force.{met-or-more, one-open, nothing-open, l
 use Rattle.check_force.proofs.force.force.Statement.{statement}
 use Rattle.check_force.proofs.force.force.Tie as tie
 
-returns : tie.Need-returns
+returns : tie.Need-returns-then-met-without_lowest-ne0
 returns c =
-    let a = c.before.before.args in
-    met-or-more a.body a.head a.must a.may c.before.without-lowest.ensures c.if1.true
+    let a = c.args in
+    met-or-more a.body a.head a.must a.may c.without_lowest.ensures c.if-met-without_lowest-ne0.true
 
-returns-2 : tie.Need-returns-2
+returns-2 : tie.Need-returns-then-last-eq0
 returns-2 c =
-    let a = c.before.before.before.args in
-    nothing-open a.body a.head a.must a.may c.if2.true
+    let a = c.args in
+    nothing-open a.body a.head a.must a.may c.if-last-eq0.true
 
-returns-3 : tie.Need-returns-3
+returns-3 : tie.Need-returns-then-needed-eq0
 returns-3 c =
-    let at_test = c.before.before in
-    let a = at_test.before.before.args in
-    let one = one-open a.body a.head a.must a.may at_test.before.without-lowest.ensures at_test.if1.false in
-    last-head a.body a.head a.must a.may c.before.if2.false one.0 one.1 c.if3.true
+    let a = c.args in
+    let one = one-open a.body a.head a.must a.may c.without_lowest.ensures c.if-met-without_lowest-ne0.false in
+    last-head a.body a.head a.must a.may c.if-last-eq0.false one.0 one.1 c.if-needed-eq0.true
 
-returns-4 : tie.Need-returns-4
+returns-4 : tie.Need-returns-then-left-eq0
 returns-4 c =
-    let at_test = c.before.before.before in
-    let a = at_test.before.before.args in
-    let one = one-open a.body a.head a.must a.may at_test.before.without-lowest.ensures at_test.if1.false in
-    last-body a.body a.head a.must a.may c.before.before.if2.false one.0 one.1 c.if4.true
+    let a = c.args in
+    let one = one-open a.body a.head a.must a.may c.without_lowest.ensures c.if-met-without_lowest-ne0.false in
+    last-body a.body a.head a.must a.may c.if-last-eq0.false one.0 one.1 c.if-left-eq0.true
 
-returns-5 : tie.Need-returns-5
+returns-5 : tie.Need-returns
 returns-5 c =
-    let at-if1 = c.before.before.before in
-    let a = at-if1.before.before.args in
-    same-open a.body a.head a.must a.may c.before.before.if2.false c.before.if3.false c.if4.false
+    let a = c.args in
+    same-open a.body a.head a.must a.may c.if-last-eq0.false c.if-needed-eq0.false c.if-left-eq0.false
 
 pub force_spec : {M : Type 1} → statement M
 force_spec = tie.close (tie.spec (λ c κs. search rules) returns returns-2 returns-3 returns-4 returns-5)

@@ -7,61 +7,42 @@ use Rattle.check_force.proofs.Laws.Narrow.{kept_same, open-count, less-open-must
 use Rattle.check_force.proofs.force.propagate.Statement.{statement}
 use Rattle.check_force.proofs.force.propagate.Tie as tie
 
-abbrev invariant-loop : tie.invariant-loop
+abbrev invariant-loop : tie.invariant-loop-was
 invariant-loop bodies heads count whole must may was₀ was = Kept (Model whole bodies heads count) must may was
 
-abbrev decreases-loop : tie.decreases-loop
+abbrev decreases-loop : tie.decreases-loop-was
 decreases-loop bodies heads count whole must may was₀ was = open-count was.must was.may
 
-loop-holds : tie.Need-loop-init invariant-loop decreases-loop
+loop-holds : tie.Need-loop-was-init invariant-loop decreases-loop
 loop-holds c = kept_same
 
-returns : tie.Need-returns invariant-loop decreases-loop
+returns : tie.Need-returns-then-not-next invariant-loop decreases-loop
 returns c =
-    let at-pass = c.before.before in
-    propagated-dead at-pass.before.loop.invariant at-pass.pass.ensures (not-true _ c.if1.true)
+    propagated-dead c.loop-was.invariant c.pass-next.ensures (not-true _ c.if-not-next.true)
 
-returns-2 : tie.Need-returns-2 invariant-loop decreases-loop
+returns-2 : tie.Need-returns-then-next-was-2 invariant-loop decreases-loop
 returns-2 c =
-    let at-must = c.before.before.before in
-    let at-if1 = at-must.before.before.before in
-    let at-pass = at-if1.before.before in
-    let at-loop = at-pass.before in
-    propagated-same at-loop.loop.invariant at-pass.pass.ensures at-loop.before.before.before.requires.2 at-must.if2.true c.if3.true
+    propagated-same c.loop-was.invariant c.pass-next.ensures c.requires.2 c.if-next-was.true c.if-next-was-2.true
 
-loop-less : tie.Need-loop-smaller invariant-loop decreases-loop
+loop-less : tie.Need-loop-was-smaller-else-next-was-2 invariant-loop decreases-loop
 loop-less c =
-    let at-if2 = c.before.before.before in
-    let at-if1 = at-if2.before.before.before in
-    let at-pass = at-if1.before.before in
-    let at-loop = at-pass.before in
-    let start = at-loop.before.before.before in
-    let a = start.args in
-    less-open-may {P = Model a.whole a.bodies.now a.heads.now a.count} at-pass.pass.ensures.kept
-    (at-loop.loop.invariant.inside start.requires.2) c.if3.false
+    let a = c.args in
+    less-open-may {P = Model a.whole a.bodies.now a.heads.now a.count} c.pass-next.ensures.kept
+    (c.loop-was.invariant.inside c.requires.2) c.if-next-was-2.false
 
-loop-again : tie.Need-loop-preserved invariant-loop decreases-loop
+loop-again : tie.Need-loop-was-preserved-else-next-was-2 invariant-loop decreases-loop
 loop-again c =
-    let at-if2 = c.before.before.before in
-    let at-if1 = at-if2.before.before.before in
-    let at-pass = at-if1.before.before in
-    swept at-pass.before.loop.invariant at-pass.pass.ensures.kept
+    swept c.loop-was.invariant c.pass-next.ensures.kept
 
-loop-less-2 : tie.Need-loop-smaller-2 invariant-loop decreases-loop
+loop-less-2 : tie.Need-loop-was-smaller invariant-loop decreases-loop
 loop-less-2 c =
-    let at-if1 = c.before.before.before in
-    let at-pass = at-if1.before.before in
-    let at-loop = at-pass.before in
-    let start = at-loop.before.before.before in
-    let a = start.args in
-    less-open-must {P = Model a.whole a.bodies.now a.heads.now a.count} at-pass.pass.ensures.kept
-    (at-loop.loop.invariant.inside start.requires.2) c.if2.false
+    let a = c.args in
+    less-open-must {P = Model a.whole a.bodies.now a.heads.now a.count} c.pass-next.ensures.kept
+    (c.loop-was.invariant.inside c.requires.2) c.if-next-was.false
 
-loop-again-2 : tie.Need-loop-preserved-2 invariant-loop decreases-loop
+loop-again-2 : tie.Need-loop-was-preserved invariant-loop decreases-loop
 loop-again-2 c =
-    let at-if1 = c.before.before.before in
-    let at-pass = at-if1.before.before in
-    swept at-pass.before.loop.invariant at-pass.pass.ensures.kept
+    swept c.loop-was.invariant c.pass-next.ensures.kept
 
 pub propagate_spec : {M : Type 1} → statement M
 propagate_spec =

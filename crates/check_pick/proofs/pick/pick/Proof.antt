@@ -10,36 +10,26 @@ use Rattle.check_pick.proofs.Laws.Count.{Some, most-some}
 use Rattle.check_pick.proofs.pick.pick.Statement.{statement}
 use Rattle.check_pick.proofs.pick.pick.Tie as tie
 
-abbrev invariant-loop : tie.invariant-loop
+abbrev invariant-loop : tie.invariant-loop-i
 invariant-loop bodies heads count must may pairs₀ longer₀ i₀ pairs longer i = i ≤ count
 
-abbrev decreases-loop : tie.decreases-loop
+abbrev decreases-loop : tie.decreases-loop-i
 decreases-loop bodies heads count must may pairs₀ longer₀ i₀ pairs longer i = count - i
 
-abbrev start_of : tie.After-most2 invariant-loop decreases-loop → tie.Start invariant-loop decreases-loop
-start_of c =
-    let at-loop = c.before.before.before in
-    at-loop.before.before.before
-
 -- what the two counts leave are some of the open positions
-most-chosen : (c : tie.After-most2 invariant-loop decreases-loop) → Some (bit_xor (start_of c).args.may (start_of c).args.must) c.most2.result
+most-chosen : (c : tie.After-most-2 invariant-loop decreases-loop) → Some (bit_xor c.args.may c.args.must) c.most-2.result
 most-chosen c =
-    let start = start_of c in
-    let a = start.args in
+    let a = c.args in
     let left = bit_xor a.may a.must in
-    subst (Some left) (sym c.most2.ensures)
-    (most-some _ _ left (subst (Some left) (sym c.before.most.ensures) (most-some _ _ left (within-refl left, start.pre.2))))
+    subst (Some left) (sym c.most-2.ensures)
+    (most-some _ _ left (subst (Some left) (sym c.most.ensures) (most-some _ _ left (within-refl left, c.requires.2))))
 
 highest-requires : tie.Need-highest-requires invariant-loop decreases-loop
 highest-requires c κs = (most-chosen c).1
 
 returns : tie.Need-returns invariant-loop decreases-loop
 returns c =
-    let at_second = c.before in
-    let at_first = at_second.before in
-    let at-loop = at_first.before.before in
-    let start = at-loop.before.before.before in
-    let chosen = most-chosen at_second in
+    let chosen = most-chosen c.before in
     record {
       within = within-trans _ _ _ c.highest.ensures.position.within chosen.0;
       single = c.highest.ensures.position.single;

@@ -53,7 +53,7 @@ settle-propagate-requires : (t : ℕ) → settle-lts.Need-propagate-requires (se
 settle-propagate-requires t c κs = c.before.before.requires.1
 
 settle-returns : (t : ℕ) → settle-lts.Need-returns (settle-claims t) (settle-at t) settle.Post
-settle-returns t c = any-dead c.before.before.propagate.ensures (not-true _ c.if1.true)
+settle-returns t c = any-dead c.before.before.propagate.ensures (c.if1.true)
 
 settle-try-open-requires : (t : ℕ) → settle-lts.Need-try-open-requires (settle-claims t) (settle-at t) settle.Post
 settle-try-open-requires t c κs =
@@ -67,8 +67,8 @@ settle-try-open-requires t c κs =
         start.requires.1.0,
         start.requires.1.1,
         v.kept.inside start.requires.1.2,
-        v.leaf (not-false _ c.if1.false),
-        v.settled (not-false _ c.if1.false),
+        v.leaf (c.if1.false),
+        v.settled (c.if1.false),
       ),
     )
 

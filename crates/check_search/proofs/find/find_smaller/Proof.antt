@@ -10,26 +10,22 @@ use Rattle.check_search.proofs.Laws.Smaller.{first-smaller}
 use Rattle.check_search.proofs.find.find_smaller.Statement.{statement}
 use Rattle.check_search.proofs.find.find_smaller.Tie as tie
 
-returns : tie.Need-returns
+returns : tie.Need-returns-then-not-any
 returns c =
-    let at-settle = c.before.before in
-    let a = at-settle.before.before.before.args in
+    let a = c.args in
     let bodies = a.bodies.now in
     let heads = a.heads.now in
     first-smaller a.set bodies heads a.count
-    (first-none {P = Candidate (Model a.set bodies heads a.count) 0 a.set} (not-true _ c.if1.true)
-    at-settle.settle.ensures)
+    (first-none {P = Candidate (Model a.set bodies heads a.count) 0 a.set} (c.if-not-any.true)
+    c.settle-any.ensures)
 
 lower-requires : tie.Need-lower-requires
 lower-requires c κs =
-    let at-settle = c.before.before in
-    let start = at-settle.before.before.before in
-    (start.requires.0, start.requires.1, at-settle.settle.ensures.passes (not-false _ c.if1.false))
+    (c.requires.0, c.requires.1, c.settle-any.ensures.passes (c.if-not-any.false))
 
-returns-2 : tie.Need-returns-2
+returns-2 : tie.Need-returns
 returns-2 c =
-    let at-settle = c.before.before.before in
-    let a = at-settle.before.before.before.args in
+    let a = c.args in
     first-smaller a.set a.bodies.now a.heads.now a.count c.lower.ensures
 
 pub find_smaller_spec : {M : Type 1} → statement M

@@ -8,63 +8,57 @@ use Rattle.check_search.proofs.Laws.Lower.{Lowered, lowered-start, lacks, lowere
 use Rattle.check_search.proofs.find.lower.Statement.{statement}
 use Rattle.check_search.proofs.find.lower.Tie as tie
 
-abbrev invariant-loop : tie.invariant-loop
+abbrev invariant-loop : tie.invariant-loop-must
 invariant-loop bodies heads count whole some model₀ must₀ may₀ model must may = Lowered (Model whole bodies heads count) whole must may model
 
-abbrev decreases-loop : tie.decreases-loop
+abbrev decreases-loop : tie.decreases-loop-must
 decreases-loop bodies heads count whole some model₀ must₀ may₀ model must may = open-count must may
 
-loop-holds : tie.Need-loop-init invariant-loop decreases-loop
-loop-holds c = lowered-start c.before.before.requires.2
+loop-holds : tie.Need-loop-must-init invariant-loop decreases-loop
+loop-holds c = lowered-start c.requires.2
 
-highest-requires : tie.Need-highest-requires invariant-loop decreases-loop
+highest-requires : tie.Need-highest-open-requires invariant-loop decreases-loop
 highest-requires c κs =
-    let l = c.before.loop in
-    open-some l.must l.may l.invariant.inside c.loop-test.true
+    let l = c.loop-must in
+    open-some l.must l.may l.invariant.inside c.loop-must-test.true
 
-loop-less : tie.Need-loop-smaller invariant-loop decreases-loop
+loop-less : tie.Need-loop-must-smaller-then-model-open-eq0 invariant-loop decreases-loop
 loop-less c =
-    let l = c.before.before.before.loop in
-    (tries-less l.must l.may _ l.invariant.inside c.before.highest.ensures.position).0
+    let l = c.loop-must in
+    (tries-less l.must l.may _ l.invariant.inside c.highest-open.ensures.position).0
 
-loop-again : tie.Need-loop-preserved invariant-loop decreases-loop
+loop-again : tie.Need-loop-must-preserved-then-model-open-eq0 invariant-loop decreases-loop
 loop-again c =
-    let l = c.before.before.before.loop in
-    lowered-absent c.before.highest.ensures l.invariant (lacks c.before.highest.ensures l.invariant c.if1.true)
+    let l = c.loop-must in
+    lowered-absent c.highest-open.ensures l.invariant (lacks c.highest-open.ensures l.invariant c.if-model-open-eq0.true)
 
-settle-requires : tie.Need-settle-requires invariant-loop decreases-loop
+settle-requires : tie.Need-settle-other-requires invariant-loop decreases-loop
 settle-requires c κs =
-    let at-loop = c.before.before.before in
-    let start = at-loop.before.before.before in
-    let l = at-loop.loop in
-    (start.requires.0, start.requires.1, (tries-inside l.must l.may _ l.invariant.inside c.before.highest.ensures.position).0)
+    let l = c.loop-must in
+    (c.requires.0, c.requires.1, (tries-inside l.must l.may _ l.invariant.inside c.highest-open.ensures.position).0)
 
-loop-less-2 : tie.Need-loop-smaller-2 invariant-loop decreases-loop
+loop-less-2 : tie.Need-loop-must-smaller-then-other invariant-loop decreases-loop
 loop-less-2 c =
-    let at-highest = c.before.before.before in
-    let l = at-highest.before.before.loop in
-    (tries-less l.must l.may _ l.invariant.inside at-highest.highest.ensures.position).0
+    let l = c.loop-must in
+    (tries-less l.must l.may _ l.invariant.inside c.highest-open.ensures.position).0
 
-loop-again-2 : tie.Need-loop-preserved-2 invariant-loop decreases-loop
+loop-again-2 : tie.Need-loop-must-preserved-then-other invariant-loop decreases-loop
 loop-again-2 c =
-    let at-highest = c.before.before.before in
-    let l = at-highest.before.before.loop in
-    lowered-absent at-highest.highest.ensures l.invariant (c.before.settle.ensures.passes c.if2.true)
+    let l = c.loop-must in
+    lowered-absent c.highest-open.ensures l.invariant (c.settle-other.ensures.passes c.if-other.true)
 
-loop-less-3 : tie.Need-loop-smaller-3 invariant-loop decreases-loop
+loop-less-3 : tie.Need-loop-must-smaller invariant-loop decreases-loop
 loop-less-3 c =
-    let at-highest = c.before.before.before in
-    let l = at-highest.before.before.loop in
-    (tries-less l.must l.may _ l.invariant.inside at-highest.highest.ensures.position).1
+    let l = c.loop-must in
+    (tries-less l.must l.may _ l.invariant.inside c.highest-open.ensures.position).1
 
-loop-again-3 : tie.Need-loop-preserved-3 invariant-loop decreases-loop
+loop-again-3 : tie.Need-loop-must-preserved invariant-loop decreases-loop
 loop-again-3 c =
-    let at-highest = c.before.before.before in
-    let l = at-highest.before.before.loop in
-    lowered-present at-highest.highest.ensures l.invariant c.if2.false c.before.settle.ensures
+    let l = c.loop-must in
+    lowered-present c.highest-open.ensures l.invariant c.if-other.false c.settle-other.ensures
 
 returns : tie.Need-returns invariant-loop decreases-loop
-returns c = lowered-end c.loop-test.false c.before.loop.invariant
+returns c = lowered-end c.loop-must-test.false c.loop-must.invariant
 
 pub lower_spec : {M : Type 1} → statement M
 lower_spec =

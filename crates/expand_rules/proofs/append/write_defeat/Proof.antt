@@ -7,13 +7,9 @@ use Rattle.expand_rules.proofs.append.write_defeat.Tie as tie
 
 returns : tie.Need-returns
 returns c =
-    let at_second = c.before.before in
-    let at_first = at_second.before.before.before.before in
-    let at-header = at_first.before.before.before.before in
-    let start = at-header.before.before.before in
-    let a = start.args in
-    defeat-written a.out.now _ _ _ a.to a.lower a.loser a.winner start.requires at-header.write-header.ensures
-    at_first.encode.ensures at_second.encode2.ensures
+    let a = c.args in
+    defeat-written a.out.now _ _ _ a.to a.lower a.loser a.winner c.requires c.write_header.ensures
+    c.encode.ensures c.encode-2.ensures
 
 pub write_defeat_spec : {M : Type 1} → statement M
 write_defeat_spec =

@@ -7,11 +7,9 @@ use Rattle.expand_tables.proofs.sheets.add_override.Tie as tie
 
 returns : tie.Need-returns
 returns c =
-    let at-single-at = c.before.before.before.before in
-    let start = at-single-at.before.before.before.before in
-    let a = start.args in
-    overridden a.upper a.lower a.n a.up.now a.low.now a.lowers.now at-single-at.single-at.result at-single-at.single-at.ensures
-    start.requires.0 start.requires.1.0 start.requires.1.1.0
+    let a = c.args in
+    overridden a.upper a.lower a.n a.up.now a.low.now a.lowers.now c.single_at-bit.result c.single_at-bit.ensures
+    c.requires.0 c.requires.1.0 c.requires.1.1.0
 
 pub add_override_spec : {M : Type 1} → statement M
 add_override_spec =

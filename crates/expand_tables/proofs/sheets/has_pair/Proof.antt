@@ -9,37 +9,35 @@ use Rattle.expand_tables.proofs.Laws.Update.{pair_found, pair-next, pair-none}
 use Rattle.expand_tables.proofs.sheets.has_pair.Statement.{statement}
 use Rattle.expand_tables.proofs.sheets.has_pair.Tie as tie
 
-abbrev invariant-loop : tie.invariant-loop
+abbrev invariant-loop : tie.invariant-loop-left
 invariant-loop ones others m k l i₀ left₀ i left =
     (i + left ≤ length ones) × (i + left ≤ length others) × (pair_from ones others k l 0 m ≡ pair_from ones others k l i left)
 
-abbrev decreases-loop : tie.decreases-loop
+abbrev decreases-loop : tie.decreases-loop-left
 decreases-loop ones others m k l i₀ left₀ i left = left
 
-returns : tie.Need-returns invariant-loop decreases-loop
+returns : tie.Need-returns-then-k-x invariant-loop decreases-loop
 unfolding pair_at
 returns c =
-    let in-loop = c.before.before.before in
-    let l = in-loop.before.loop in
-    let a = in-loop.before.before.args in
-    sym (l.invariant.2 ∙ pair_found a.ones.now a.others.now a.k a.l l.i l.left in-loop.loop-test.true c.if1.true)
+    let l = c.loop-left in
+    let a = c.args in
+    sym (l.invariant.2 ∙ pair_found a.ones.now a.others.now a.k a.l l.i l.left c.loop-left-test.true c.if-k-x.true)
 
-loop-again : tie.Need-loop-preserved invariant-loop decreases-loop
+loop-again : tie.Need-loop-left-preserved invariant-loop decreases-loop
 unfolding pair_at
 loop-again c =
-    let in-loop = c.before.before.before in
-    let l = in-loop.before.loop in
-    let a = in-loop.before.before.args in (
+    let l = c.loop-left in
+    let a = c.args in (
       search rules,
       search rules,
-      l.invariant.2 ∙ pair-next a.ones.now a.others.now a.k a.l l.i l.left in-loop.loop-test.true c.if1.false,
+      l.invariant.2 ∙ pair-next a.ones.now a.others.now a.k a.l l.i l.left c.loop-left-test.true c.if-k-x.false,
     )
 
-returns-2 : tie.Need-returns-2 invariant-loop decreases-loop
+returns-2 : tie.Need-returns invariant-loop decreases-loop
 returns-2 c =
-    let l = c.before.loop in
-    let a = c.before.before.args in
-    sym (l.invariant.2 ∙ pair-none a.ones.now a.others.now a.k a.l l.i l.left c.loop-test.false)
+    let l = c.loop-left in
+    let a = c.args in
+    sym (l.invariant.2 ∙ pair-none a.ones.now a.others.now a.k a.l l.i l.left c.loop-left-test.false)
 
 pub has_pair_spec : {M : Type 1} → statement M
 has_pair_spec =

@@ -13,9 +13,8 @@ use Rattle.expand_tables.proofs.sheets.is_new.Tie as tie
 returns : tie.Need-returns
 unfolding is_new
 returns c =
-    let at-single-at = c.before in
-    let a = at-single-at.before.args in
-    ap₂ (λ (n : ℕ) (t : Bool). eqb (bit_and a.w a.same) n && t) at-single-at.single-at.ensures c.is-in.ensures
+    let a = c.args in
+    ap₂ (λ (n : ℕ) (t : Bool). eqb (bit_and a.w a.same) n && t) c.single_at.ensures c.is_in.ensures
 
 pub is_new_spec : {M : Type 1} → statement M
 is_new_spec = tie.close (tie.spec (λ c κs. search rules) (λ c κs. search rules) returns)

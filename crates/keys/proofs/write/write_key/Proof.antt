@@ -8,12 +8,8 @@ use Rattle.keys.proofs.write.write_key.Tie as tie
 
 returns : tie.Need-returns
 returns c =
-    let at-put-number-arg2 = c.before.before.before in
-    let at-put-number = at-put-number-arg2.before.before.before in
-    let at_out = at-put-number.before.before.before in
-    let at-put-byte = at_out.before in
-    let a = at-put-byte.before.before.before.args in
-    rw (c.before.before.put-number2.ensures, at-put-number.put-number.ensures, at-put-byte.put_byte.ensures)
+    let a = c.args in
+    rw (c.put_number-2.ensures, c.put_number.ensures, c.put_byte.ensures)
     (write-fields a.out.now a.at a.key (omega arith))
 
 pub write_key_spec : {M : Type 1} → statement M

@@ -14,48 +14,40 @@ use Rattle.keys.proofs.Laws.Bytes.{length-bytes_of, keys-first, keys_none, fitti
 use Rattle.keys.proofs.write.write_keys.Statement.{statement}
 use Rattle.keys.proofs.write.write_keys.Tie as tie
 
-abbrev invariant-loop : tie.invariant-loop
+abbrev invariant-loop : tie.invariant-loop-at
 invariant-loop keys count out₀ to at₀ next₀ out at next =
     (at ≤ count) × (next + 5 * (count - at) ≤ length out) × (length out ≡ length out₀)
     × (write out₀ to (key_bytes (take count keys)) ≡ write out next (key_bytes (drop at (take count keys))))
 
-abbrev decreases-loop : tie.decreases-loop
+abbrev decreases-loop : tie.decreases-loop-at
 decreases-loop keys count out₀ to at₀ next₀ out at next = count - at
 
-write-key-requires : tie.Need-write-key-requires invariant-loop decreases-loop
+write-key-requires : tie.Need-write_key-requires invariant-loop decreases-loop
 write-key-requires c κs =
-    let at-loop = c.before.before.before in
-    let start = at-loop.before.before.before in
-    let a = start.args in
-    let s = start.requires in
-    (fitting-at a.keys.now a.count at-loop.loop.at s.0 s.1.1 c.before.before.loop-test.true, omega arith)
+    let a = c.args in
+    let s = c.requires in
+    (fitting-at a.keys.now a.count c.loop-at.at s.0 s.1.1 c.loop-at-test.true, omega arith)
 
-loop-again : tie.Need-loop-preserved invariant-loop decreases-loop
+loop-again : tie.Need-loop-at-preserved invariant-loop decreases-loop
 loop-again c =
-    let at-write-key = c.before.before in
-    let at-loop-test = at-write-key.before.before.before in
-    let at-loop = at-loop-test.before in
-    let start = at-loop.before.before.before in
-    let l = at-loop.loop in
-    let a = start.args in
+    let l = c.loop-at in
+    let a = c.args in
     let keys = a.keys.now in
-    let s = start.requires in
+    let s = c.requires in
     let k = get_or keys l.at 0 in (
       search rules,
       search rules,
       search rules,
-      l.invariant.3 ∙ ap (write l.out l.next) (keys-first keys a.count s.0 l.at at-loop-test.loop-test.true)
+      l.invariant.3 ∙ ap (write l.out l.next) (keys-first keys a.count s.0 l.at c.loop-at-test.true)
           ∙ write-left l.out l.next (bytes_of k) (l.next + 5) (key_bytes (drop (l.at + 1) (take a.count keys))) (omega arith)
-          (omega (arith, length-bytes_of k)) _ at-write-key.write-key.ensures,
+          (omega (arith, length-bytes_of k)) _ c.write_key.ensures,
     )
 
 returns : tie.Need-returns invariant-loop decreases-loop
 returns c =
-    let at-loop = c.before in
-    let start = at-loop.before.before.before in
-    let l = at-loop.loop in
-    let a = start.args in
-    sym (l.invariant.3 ∙ ap (write l.out l.next) (keys_none a.keys.now a.count start.requires.0 l.at c.loop-test.false)
+    let l = c.loop-at in
+    let a = c.args in
+    sym (l.invariant.3 ∙ ap (write l.out l.next) (keys_none a.keys.now a.count c.requires.0 l.at c.loop-at-test.false)
     ∙ write-nil l.out l.next)
 
 pub write_keys_spec : {M : Type 1} → statement M

@@ -5,17 +5,17 @@ use Rattle.semantics.specs.Form.{keeps_counts}
 use Rattle.record_step.proofs.step.are_counts_kept.Statement.{statement}
 use Rattle.record_step.proofs.step.are_counts_kept.Tie as tie
 
-returns : tie.Need-returns
+returns : tie.Need-returns-then-lim-heads
 unfolding keeps_counts
-returns c = simp (lt-leb _ _ c.if1.true)
+returns c = simp (lt-leb _ _ c.if-lim-heads.true)
 
-returns-2 : tie.Need-returns-2
+returns-2 : tie.Need-returns-then-lim-positives
 unfolding keeps_counts
-returns-2 c = simp (le-leb _ _ c.before.before.if1.false, lt-leb _ _ c.if2.true)
+returns-2 c = simp (le-leb _ _ c.if-lim-heads.false, lt-leb _ _ c.if-lim-positives.true)
 
-returns-3 : tie.Need-returns-3
+returns-3 : tie.Need-returns
 unfolding keeps_counts
-returns-3 c = simp (le-leb _ _ c.before.before.before.if1.false, le-leb _ _ c.before.if2.false)
+returns-3 c = simp (le-leb _ _ c.if-lim-heads.false, le-leb _ _ c.if-lim-positives.false)
 
 pub are_counts_kept_spec : {M : Type 1} → statement M
 are_counts_kept_spec = tie.close (tie.spec returns returns-2 returns-3)

@@ -6,25 +6,25 @@ use Rattle.record.specs.Code.{found_of}
 use Rattle.record_step.proofs.step.hold.Statement.{statement}
 use Rattle.record_step.proofs.step.hold.Tie as tie
 
-returns : tie.Need-returns
+returns : tie.Need-returns-in-Rule
 unfolding found_of
-returns c = sym (ap (found_of c.before.before.before.args.held) c.before.step.given.1)
+returns c = sym (ap (found_of c.args.held) c.in-Rule.is)
 
-returns-2 : tie.Need-returns-2
+returns-2 : tie.Need-returns-in-Override
 unfolding found_of
-returns-2 c = sym (ap (found_of c.before.before.before.args.held) c.before.step2.given.1)
+returns-2 c = sym (ap (found_of c.args.held) c.in-Override.is)
 
-returns-3 : tie.Need-returns-3
+returns-3 : tie.Need-returns-in-Opposition
 unfolding found_of
-returns-3 c = sym (ap (found_of c.before.before.before.args.held) c.before.step3.given.1)
+returns-3 c = sym (ap (found_of c.args.held) c.in-Opposition.is)
 
-returns-4 : tie.Need-returns-4
+returns-4 : tie.Need-returns-in-End
 unfolding found_of
-returns-4 c = sym (ap (found_of c.before.before.args.held) c.enum_told.given.1)
+returns-4 c = sym (ap (found_of c.args.held) c.in-End.is)
 
-returns-5 : tie.Need-returns-5
+returns-5 : tie.Need-returns-in-Refused
 unfolding found_of
-returns-5 c = sym (ap (found_of c.before.before.before.args.held) c.before.step4.given.1)
+returns-5 c = sym (ap (found_of c.args.held) c.in-Refused.is)
 
 pub hold_spec : {M : Type 1} → statement M
 hold_spec =

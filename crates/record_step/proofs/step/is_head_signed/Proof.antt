@@ -10,28 +10,26 @@ use Rattle.record.proofs.Laws.Literals.{kinds-signed, kinds-marked, kinds-nil}
 use Rattle.record_step.proofs.step.is_head_signed.Statement.{statement}
 use Rattle.record_step.proofs.step.is_head_signed.Tie as tie
 
-abbrev invariant-loop : tie.invariant-loop
+abbrev invariant-loop : tie.invariant-loop-left
 invariant-loop t heads at₀ left₀ at left = (at + 5 * left ≤ length t) × (signed_kinds t 7 heads ≡ signed_kinds t at left)
 
-abbrev decreases-loop : tie.decreases-loop
+abbrev decreases-loop : tie.decreases-loop-left
 decreases-loop t heads at₀ left₀ at left = left
 
-returns : tie.Need-returns invariant-loop decreases-loop
+returns : tie.Need-returns-then-t-at-gt1 invariant-loop decreases-loop
 returns c =
-    let at-loop = c.before.before.before in
-    let l = at-loop.loop in
-    sym (l.invariant.1 ∙ kinds-marked at-loop.before.args.t.now l.at l.left c.before.before.loop-test.true c.if1.true)
+    let l = c.loop-left in
+    sym (l.invariant.1 ∙ kinds-marked c.args.t.now l.at l.left c.loop-left-test.true c.if-t-at-gt1.true)
 
-loop-again : tie.Need-loop-preserved invariant-loop decreases-loop
+loop-again : tie.Need-loop-left-preserved invariant-loop decreases-loop
 loop-again c =
-    let at-loop = c.before.before.before in
-    let l = at-loop.loop in (
+    let l = c.loop-left in (
       search rules,
-      l.invariant.1 ∙ kinds-signed at-loop.before.args.t.now l.at l.left c.before.before.loop-test.true c.if1.false,
+      l.invariant.1 ∙ kinds-signed c.args.t.now l.at l.left c.loop-left-test.true c.if-t-at-gt1.false,
     )
 
-returns-2 : tie.Need-returns-2 invariant-loop decreases-loop
-returns-2 c = let l = c.before.loop in sym (l.invariant.1 ∙ kinds-nil c.before.before.args.t.now l.at l.left c.loop-test.false)
+returns-2 : tie.Need-returns invariant-loop decreases-loop
+returns-2 c = let l = c.loop-left in sym (l.invariant.1 ∙ kinds-nil c.args.t.now l.at l.left c.loop-left-test.false)
 
 pub is_head_signed_spec : {M : Type 1} → statement M
 is_head_signed_spec =

@@ -11,50 +11,41 @@ use Rattle.record_step.proofs.Laws.Judged.{judged-empty, judged-marked, judged-s
 use Rattle.record_step.proofs.step.judge_literals.Statement.{statement}
 use Rattle.record_step.proofs.step.judge_literals.Tie as tie
 
-abbrev start_of : tie.After-enum-told → tie.Start
-start_of c = c.before.before.before
-
 -- the literals are right, and the rule is defeasible
-defeasible : (c : tie.Then1) → (let a = (start_of c.before).args in
+defeasible : (c : tie.Then-defeasible) → (let a = c.args in
     judged a.run a.defeasible a.t.now a.heads a.size ≡ judged Run.Right true a.t.now a.heads a.size)
 defeasible c =
-    let a = (start_of c.before).args in
-    ap₂ (λ (r : Run) (d : Bool). judged r d a.t.now a.heads a.size) c.before.enum_told.given.1 c.if1.true
+    let a = c.args in
+    ap₂ (λ (r : Run) (d : Bool). judged r d a.t.now a.heads a.size) c.in_default.is c.if-defeasible.true
 
-returns : tie.Need-returns
+returns : tie.Need-returns-in-Refused
 unfolding judged
 returns c =
-    let at-run = c.before in
-    let a = at-run.before.before.before.args in
-    sym (ap (λ (r : Run). judged r a.defeasible a.t.now a.heads a.size) at-run.run.given.1)
+    let a = c.args in
+    sym (ap (λ (r : Run). judged r a.defeasible a.t.now a.heads a.size) c.in-Refused.is)
 
-returns-2 : tie.Need-returns-2
+returns-2 : tie.Need-returns-then-heads-eq0
 returns-2 c =
-    let at-heads = c.before in
-    let a = (start_of at-heads.before.before).args in
-    c.refuse.ensures ∙ sym (defeasible at-heads.before ∙ judged-empty a.t.now a.heads a.size at-heads.if2.true)
+    let a = c.args in
+    c.refuse.ensures ∙ sym (defeasible c.before.before ∙ judged-empty a.t.now a.heads a.size c.if-heads-eq0.true)
 
-returns-3 : tie.Need-returns-3
+returns-3 : tie.Need-returns-then-not-is_head_signed
 returns-3 c =
-    let at-signed = c.before.before in
-    let at-heads = at-signed.before in
-    let a = (start_of at-heads.before.before).args in
-    c.refuse2.ensures ∙ sym (defeasible at-heads.before ∙ judged-marked a.t.now a.heads a.size at-heads.if2.false
-    (sym at-signed.is-head-signed.ensures ∙ not-true _ c.before.if3.true))
+    let a = c.args in
+    c.refuse-then-not-is_head_signed.ensures ∙ sym (defeasible c.before.before.before.before ∙ judged-marked a.t.now a.heads a.size c.if-heads-eq0.false
+    (sym c.is_head_signed.ensures ∙ c.if-not-is_head_signed.true))
 
-returns-4 : tie.Need-returns-4
+returns-4 : tie.Need-returns-else-not-is_head_signed
 returns-4 c =
-    let at-signed = c.before in
-    let at-heads = at-signed.before in
-    let a = (start_of at-heads.before.before).args in
-    sym (defeasible at-heads.before ∙ judged-signed a.t.now a.heads a.size at-heads.if2.false
-    (sym at-signed.is-head-signed.ensures ∙ not-false _ c.if3.false))
+    let a = c.args in
+    sym (defeasible c.before.before.before ∙ judged-signed a.t.now a.heads a.size c.if-heads-eq0.false
+    (sym c.is_head_signed.ensures ∙ c.if-not-is_head_signed.false))
 
-returns-5 : tie.Need-returns-5
+returns-5 : tie.Need-returns-else-defeasible
 unfolding judged
 returns-5 c =
-    let a = (start_of c.before).args in
-    sym (ap₂ (λ (r : Run) (d : Bool). judged r d a.t.now a.heads a.size) c.before.enum_told.given.1 c.if1.false)
+    let a = c.args in
+    sym (ap₂ (λ (r : Run) (d : Bool). judged r d a.t.now a.heads a.size) c.in_default.is c.if-defeasible.false)
 
 pub judge_literals_spec : {M : Type 1} → statement M
 judge_literals_spec =

@@ -6,28 +6,25 @@ use Rattle.record.proofs.Laws.Header.{end-cut, end-number, end-behind, end-right
 use Rattle.record_step.proofs.step.read_end.Statement.{statement}
 use Rattle.record_step.proofs.step.read_end.Tie as tie
 
-returns : tie.Need-returns
+returns : tie.Need-returns-then-t-lt4
 returns c =
-    let a = c.before.before.before.args in
-    c.refuse.ensures ∙ sym (end-cut a.held a.t.now c.before.if1.true)
+    let a = c.args in
+    c.refuse.ensures ∙ sym (end-cut a.held a.t.now c.if-t-lt4.true)
 
-returns-2 : tie.Need-returns-2
+returns-2 : tie.Need-returns-then-counted-held
 returns-2 c =
-    let at-if1 = c.before.before.before in
-    let a = at-if1.before.before.args in
-    c.refuse2.ensures ∙ sym (end-number a.held a.t.now at-if1.if1.false (λ e. c.before.if2.true (c.before.before.get-number.ensures ∙ e)))
+    let a = c.args in
+    c.refuse-then-counted-held.ensures ∙ sym (end-number a.held a.t.now c.if-t-lt4.false (λ e. c.if-counted-held.true (c.get_number-counted.ensures ∙ e)))
 
-returns-3 : tie.Need-returns-3
+returns-3 : tie.Need-returns-then-t-ne4
 returns-3 c =
-    let at-get-number = c.before.before.before in
-    let a = at-get-number.before.before.before.args in
-    c.refuse3.ensures ∙ sym (end-behind a.held a.t.now at-get-number.before.if1.false c.before.if3.true)
+    let a = c.args in
+    c.refuse-then-t-ne4.ensures ∙ sym (end-behind a.held a.t.now c.if-t-lt4.false c.if-t-ne4.true)
 
-returns-4 : tie.Need-returns-4
+returns-4 : tie.Need-returns
 returns-4 c =
-    let at-if1 = c.before.before.before in
-    let a = at-if1.before.before.args in
-    sym (end-right a.held a.t.now at-if1.if1.false (sym c.before.before.get-number.ensures ∙ c.before.if2.false) c.if3.false)
+    let a = c.args in
+    sym (end-right a.held a.t.now c.if-t-lt4.false (sym c.get_number-counted.ensures ∙ c.if-counted-held.false) c.if-t-ne4.false)
 
 pub read_end_spec : {M : Type 1} → statement M
 read_end_spec =

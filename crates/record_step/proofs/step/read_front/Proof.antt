@@ -9,43 +9,35 @@ use Rattle.record_step.proofs.Laws.Front.{told-refused, told-end, opens-rule, op
 use Rattle.record_step.proofs.step.read_front.Statement.{statement}
 use Rattle.record_step.proofs.step.read_front.Tie as tie
 
-returns : tie.Need-returns
+returns : tie.Need-returns-then-t-lt2
 returns c h same =
-    let a = c.before.before.before.args in
-    told-refused _ _ _ c.refuse.ensures (record-cut a.lim h a.t.now c.before.if1.true)
+    let a = c.args in
+    told-refused _ _ _ c.refuse.ensures (record-cut a.lim h a.t.now c.if-t-lt2.true)
 
-read-header-requires : tie.Need-read-header-requires
+read-header-requires : tie.Need-read_header-requires
 read-header-requires c κs =
-    let at-opening = c.before in
-    let at_open = at-opening.before.before in
-    let a = at_open.before.before.before.args in
-    mark-form a.lim a.t.now _ (opens-rule _ _ (sym at_open.open-record.ensures ∙ at-opening.opening.given.1))
+    let a = c.args in
+    mark-form a.lim a.t.now _ (opens-rule _ _ (sym c.open_record-opening.ensures ∙ c.in-Rule.is))
 
-returns-2 : tie.Need-returns-2
+returns-2 : tie.Need-returns-in-Rule
 returns-2 c h same =
-    let at-opening = c.before.before in
-    let at_open = at-opening.before.before in
-    let at-if1 = at_open.before in
-    let a = at-if1.before.before.args in
-    let d = at-opening.opening.given.0.0 in
-    let mark = opens-rule _ d (sym at_open.open-record.ensures ∙ at-opening.opening.given.1) in
+    let a = c.args in
+    let d = c.in-Rule.defeasible in
+    let mark = opens-rule _ d (sym c.open_record-opening.ensures ∙ c.in-Rule.is) in
     front_same a.lim a.t.now (rule_at a.lim d a.held a.t.now) _
-    (record-rule a.lim h a.t.now at-if1.if1.false d mark ∙ ap (λ n. step_of (rule_at a.lim d n a.t.now)) same)
-    c.read-header.result c.read-header.ensures
+    (record-rule a.lim h a.t.now c.if-t-lt2.false d mark ∙ ap (λ n. step_of (rule_at a.lim d n a.t.now)) same)
+    c.read_header.result c.read_header.ensures
 
-returns-3 : tie.Need-returns-3
+returns-3 : tie.Need-returns-in-End
 returns-3 c h same =
-    let at_open = c.before.before.before in
-    let at-if1 = at_open.before in
-    let a = at-if1.before.before.args in
-    let mark = opens-end _ (sym at_open.open-record.ensures ∙ c.before.enum_told.given.1) in
-    told-end a.held a.t.now _ _ c.read-end.ensures
-    (record-end a.lim h a.t.now at-if1.if1.false mark ∙ ap (λ n. step_of (end_at n a.t.now)) same)
+    let a = c.args in
+    let mark = opens-end _ (sym c.open_record-opening.ensures ∙ c.in-End.is) in
+    told-end a.held a.t.now _ _ c.read_end.ensures
+    (record-end a.lim h a.t.now c.if-t-lt2.false mark ∙ ap (λ n. step_of (end_at n a.t.now)) same)
 
-returns-4 : tie.Need-returns-4
+returns-4 : tie.Need-returns-in-Other
 returns-4 c h same =
-    let at_open = c.before.before in
-    record { whole = at_open.before.if1.false; other = sym at_open.open-record.ensures ∙ c.enum-told2.given.1 }
+    record { whole = c.if-t-lt2.false; other = sym c.open_record-opening.ensures ∙ c.in-Other.is }
 
 pub read_front_spec : {M : Type 1} → statement M
 read_front_spec =

@@ -11,8 +11,7 @@ use Rattle.record_walk.proofs.options.option_at.Tie as tie
 returns : tie.Need-returns
 unfolding option_at
 returns c =
-    let at-get-atom = c.before in
-    let a = at-get-atom.before.before.before.args in c.sign.ensures ∙ ap (signed_atom (get_or a.s.now a.at 0)) at-get-atom.get-atom.ensures
+    let a = c.args in c.sign.ensures ∙ ap (signed_atom (get_or a.s.now a.at 0)) c.get_atom.ensures
 
 pub option_at_spec : {M : Type 1} → statement M
 option_at_spec = tie.close (tie.spec (λ c. search rules) (λ c. search rules) (λ c κs. search rules) (λ c κs. search rules) returns)

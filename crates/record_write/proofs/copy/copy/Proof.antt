@@ -14,33 +14,33 @@ use Rattle.record_write.proofs.Laws.Stores.{bytes-first, bytes-none}
 use Rattle.record_write.proofs.copy.copy.Statement.{statement}
 use Rattle.record_write.proofs.copy.copy.Tie as tie
 
-abbrev invariant-loop : tie.invariant-loop
+abbrev invariant-loop : tie.invariant-loop-left
 invariant-loop s from count out₀ to at₀ next₀ left₀ out at next left =
     (at + left ≤ length s) × (next + left ≤ length out) × (length out ≡ length out₀)
     × (write out₀ to (take count (drop from s)) ≡ write out next (take left (drop at s)))
 
-abbrev decreases-loop : tie.decreases-loop
+abbrev decreases-loop : tie.decreases-loop-left
 decreases-loop s from count out₀ to at₀ next₀ left₀ out at next left = left
 
-loop-again : tie.Need-loop-preserved invariant-loop decreases-loop
+loop-again : tie.Need-loop-left-preserved invariant-loop decreases-loop
 loop-again c =
-    let l = c.before.before.loop in
-    let a = c.before.before.before.args in
+    let l = c.loop-left in
+    let a = c.args in
     let s = a.s.now in
     let b = get_or s l.at 0 in (
       search rules,
       simp length-set (omega arith),
       simp length-set (omega arith),
-      l.invariant.3 ∙ ap (write l.out l.next) (bytes-first s l.at l.left c.before.loop-test.true (omega arith))
+      l.invariant.3 ∙ ap (write l.out l.next) (bytes-first s l.at l.left c.loop-left-test.true (omega arith))
           ∙ write-left l.out l.next (b ∷ []) (l.next + 1) (take (l.left - 1) (drop (l.at + 1) s)) (omega arith) refl _
           (set-write l.out l.next b (omega arith)),
     )
 
 returns : tie.Need-returns invariant-loop decreases-loop
 returns c =
-    let l = c.before.loop in
-    let a = c.before.before.args in
-    sym (l.invariant.3 ∙ ap (write l.out l.next) (bytes-none a.s.now l.at l.left c.loop-test.false) ∙ write-nil l.out l.next)
+    let l = c.loop-left in
+    let a = c.args in
+    sym (l.invariant.3 ∙ ap (write l.out l.next) (bytes-none a.s.now l.at l.left c.loop-left-test.false) ∙ write-nil l.out l.next)
 
 pub copy_spec : {M : Type 1} → statement M
 copy_spec =

@@ -8,13 +8,12 @@ use Rattle.record_write.proofs.Laws.Stores.{end-stores}
 use Rattle.record_write.proofs.records.write_end.Statement.{statement}
 use Rattle.record_write.proofs.records.write_end.Tie as tie
 
-same_length : tie.Need-same-length
-same_length c = c.before.before.put-number.auto.0 ∙ simp length-set
+same_length : tie.Need-shape_of-out
+same_length c = c.put_number.auto.out ∙ simp length-set
 
 returns : tie.Need-returns
 returns c =
-    let at-put-number = c.before.before in
-    let a = at-put-number.before.before.before.args in end-stores a.out.now _ a.to a.rules (omega arith) at-put-number.put-number.ensures
+    let a = c.args in end-stores a.out.now _ a.to a.rules (omega arith) c.put_number.ensures
 
 pub write_end_spec : {M : Type 1} → statement M
 write_end_spec =

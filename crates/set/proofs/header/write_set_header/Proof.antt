@@ -8,14 +8,13 @@ use Rattle.set.proofs.Laws.Header.{set-header-stores}
 use Rattle.set.proofs.header.write_set_header.Statement.{statement}
 use Rattle.set.proofs.header.write_set_header.Tie as tie
 
-same_length : tie.Need-same-length
-same_length c = c.before.before.put-number.auto.0 ∙ simp length-set
+same_length : tie.Need-shape_of-out
+same_length c = c.put_number.auto.out ∙ simp length-set
 
 returns : tie.Need-returns
 returns c =
-    let at-end = c.before.before in
-    let a = at-end.before.before.before.args in
-    set-header-stores a.out.now _ a.count (omega arith) at-end.put-number.ensures
+    let a = c.args in
+    set-header-stores a.out.now _ a.count (omega arith) c.put_number.ensures
 
 pub write_set_header_spec : {M : Type 1} → statement M
 write_set_header_spec =

@@ -13,64 +13,46 @@ use Rattle.set.proofs.Laws.Member.{any-key-first, any-key-next, any-key-none}
 use Rattle.set.proofs.member.is_any_member.Statement.{statement}
 use Rattle.set.proofs.member.is_any_member.Tie as tie
 
-abbrev invariant-loop : tie.invariant-loop
+abbrev invariant-loop : tie.invariant-loop-left
 invariant-loop set count n t from at₀ left₀ at left = (at + 5 * left ≤ length t) × (any_key set count n t from ≡ any_key set count left t at)
 
-abbrev decreases-loop : tie.decreases-loop
+abbrev decreases-loop : tie.decreases-loop-left
 decreases-loop set count n t from at₀ left₀ at left = left
 
-key-at-requires : tie.Need-key-at-requires invariant-loop decreases-loop
+key-at-requires : tie.Need-key_at-requires invariant-loop decreases-loop
 key-at-requires c κs =
-    let at-loop = c.before.before in
-    let l = at-loop.loop in
-    omega (arith, ap length (part_to_end at-loop.before.before.before.args.t.now l.at), l.invariant.0, c.before.loop-test.true)
-
-abbrev start_of : tie.After-holds invariant-loop decreases-loop → tie.Start invariant-loop decreases-loop
-start_of c =
-    let at-loop-test = c.before.before.before in
-    let at-loop = at-loop-test.before in
-    at-loop.before.before.before
-
-abbrev loop-of : tie.After-holds invariant-loop decreases-loop → tie.At-loop invariant-loop decreases-loop
-loop-of c =
-    let at-loop-test = c.before.before.before in
-    at-loop-test.before
+    let l = c.loop-left in
+    omega (arith, ap length (part_to_end c.args.t.now l.at), l.invariant.0, c.loop-left-test.true)
 
 -- what the search found of the literal at `at`
 found : (c : tie.After-holds invariant-loop decreases-loop)
-    → c.holds.result ≡ has_key (start_of c).args.set.now (start_of c).args.count
-    (key_at (drop (loop-of c).loop.at (start_of c).args.t.now))
+    → c.holds.result ≡ has_key c.args.set.now c.args.count
+    (key_at (drop c.loop-left.at c.args.t.now))
 found c =
-    let at-loop = loop-of c in
-    let a = at-loop.before.before.before.args in
-    c.holds.ensures ∙ ap (has_key a.set.now a.count) (c.before.key-at.ensures ∙ ap key_at (part_to_end a.t.now at-loop.loop.at))
+    let a = c.args in
+    c.holds.ensures ∙ ap (has_key a.set.now a.count) (c.key_at.ensures ∙ ap key_at (part_to_end a.t.now c.loop-left.at))
 
-returns : tie.Need-returns invariant-loop decreases-loop
+returns : tie.Need-returns-then-holds invariant-loop decreases-loop
 returns c =
-    let at-key-at = c.before.before in
-    let at-loop = at-key-at.before.before.before in
-    let a = at-loop.before.before.before.args in
-    let l = at-loop.loop in
+    let a = c.args in
+    let l = c.loop-left in
     sym (l.invariant.1 ∙ any-key-first a.set.now a.count a.t.now l.left l.at
-    at-key-at.before.before.loop-test.true (sym (found c.before) ∙ c.if1.true))
+    c.loop-left-test.true (sym (found c.before) ∙ c.if-holds.true))
 
-loop-again : tie.Need-loop-preserved invariant-loop decreases-loop
+loop-again : tie.Need-loop-left-preserved invariant-loop decreases-loop
 loop-again c =
-    let at-key-at = c.before.before in
-    let at-loop = at-key-at.before.before.before in
-    let a = at-loop.before.before.before.args in
-    let l = at-loop.loop in (
+    let a = c.args in
+    let l = c.loop-left in (
       search rules,
-      l.invariant.1 ∙ any-key-next a.set.now a.count a.t.now l.left l.at at-key-at.before.before.loop-test.true
-          (sym (found c.before) ∙ c.if1.false),
+      l.invariant.1 ∙ any-key-next a.set.now a.count a.t.now l.left l.at c.loop-left-test.true
+          (sym (found c.before) ∙ c.if-holds.false),
     )
 
-returns-2 : tie.Need-returns-2 invariant-loop decreases-loop
+returns-2 : tie.Need-returns invariant-loop decreases-loop
 returns-2 c =
-    let at-loop = c.before in
-    let a = at-loop.before.before.before.args in
-    let l = at-loop.loop in
-    sym (l.invariant.1 ∙ any-key-none a.set.now a.count a.t.now l.left l.at c.loop-test.false)
+    let a = c.args in
+    let l = c.loop-left in
+    sym (l.invariant.1 ∙ any-key-none a.set.now a.count a.t.now l.left l.at c.loop-left-test.false)
 
 pub is_any_member_spec : {M : Type 1} → statement M
 is_any_member_spec =

@@ -8,8 +8,8 @@ use Rattle.set.proofs.member.is_member.Tie as tie
 
 returns : tie.Need-returns
 returns c =
-    let a = c.before.before.before.args in
-    c.holds.ensures ∙ ap (has_key a.set.now a.count) c.before.key_of.ensures
+    let a = c.args in
+    c.holds.ensures ∙ ap (has_key a.set.now a.count) c.key_of.ensures
 
 pub is_member_spec : {M : Type 1} → statement M
 is_member_spec = tie.close (tie.spec (λ c κs. search rules) (λ c κs. search rules) returns)

@@ -9,29 +9,24 @@ use Rattle.set.proofs.Laws.Shape.{shape-short, shape-letter, shape-colon, shape-
 use Rattle.set.proofs.read.is_shaped.Statement.{statement}
 use Rattle.set.proofs.read.is_shaped.Tie as tie
 
-returns : tie.Need-returns
-returns c = let a = c.before.before.args in sym (shape-short a.s.now c.if1.true)
+returns : tie.Need-returns-then-s-lt4
+returns c = let a = c.args in sym (shape-short a.s.now c.if-s-lt4.true)
 
-returns-2 : tie.Need-returns-2
+returns-2 : tie.Need-returns-then-s-ne65
 returns-2 c =
-    let at-if1 = c.before.before in
-    let a = at-if1.before.before.args in
-    sym (shape-letter a.s.now at-if1.if1.false c.if2.true)
+    let a = c.args in
+    sym (shape-letter a.s.now c.if-s-lt4.false c.if-s-ne65.true)
 
-returns-3 : tie.Need-returns-3
+returns-3 : tie.Need-returns-then-s-ne58
 returns-3 c =
-    let at-if2 = c.before.before in
-    let at-if1 = at-if2.before.before in
-    let a = at-if1.before.before.args in
-    sym (shape-colon a.s.now at-if1.if1.false at-if2.if2.false c.if3.true)
+    let a = c.args in
+    sym (shape-colon a.s.now c.if-s-lt4.false c.if-s-ne65.false c.if-s-ne58.true)
 
-returns-4 : tie.Need-returns-4
+returns-4 : tie.Need-returns
 returns-4 c =
-    let at-if2 = c.before.before.before in
-    let at-if1 = at-if2.before.before in
-    let a = at-if1.before.before.args in
-    ap (λ n. eqb (length a.s.now) (4 + 5 * n)) c.get-number.ensures
-    ∙ sym (shape-marked a.s.now at-if1.if1.false at-if2.if2.false c.before.if3.false)
+    let a = c.args in
+    ap (λ n. eqb (length a.s.now) (4 + 5 * n)) c.get_number-count.ensures
+    ∙ sym (shape-marked a.s.now c.if-s-lt4.false c.if-s-ne65.false c.if-s-ne58.false)
 
 pub is_shaped_spec : {M : Type 1} → statement M
 is_shaped_spec =

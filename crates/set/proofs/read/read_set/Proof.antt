@@ -11,63 +11,50 @@ use Rattle.set.proofs.Laws.Answer.{answer-wrong, answer-large, answer-member, an
 use Rattle.set.proofs.read.read_set.Statement.{statement}
 use Rattle.set.proofs.read.read_set.Tie as tie
 
-returns : tie.Need-returns
+returns : tie.Need-returns-then-not-is_shaped
 returns c =
-    let at-is-shaped = c.before.before in
-    let a = at-is-shaped.before.before.args in
-    let shape = sym at-is-shaped.is-shaped.ensures ∙ not-true _ c.before.if1.true in
+    let a = c.args in
+    let shape = sym c.is_shaped.ensures ∙ c.if-not-is_shaped.true in
     c.refuse.ensures ∙ sym (answer-wrong a.lim a.most a.s.now shape)
 
-get-number-requires : tie.Need-get-number-requires
+get-number-requires : tie.Need-get_number-count-requires
 get-number-requires c κs =
-    let a = c.before.before.before.args in
-    omega (arith, (shaped a.s.now (sym c.before.is-shaped.ensures ∙ not-false _ c.if1.false)).whole)
+    let a = c.args in
+    omega (arith, (shaped a.s.now (sym c.is_shaped.ensures ∙ c.if-not-is_shaped.false)).whole)
 
-returns-2 : tie.Need-returns-2
+returns-2 : tie.Need-returns-then-most-count
 returns-2 c =
-    let at_count = c.before.before in
-    let at_test = at_count.before in
-    let a = at_test.before.before.before.args in
-    let shape = sym at_test.before.is-shaped.ensures ∙ not-false _ at_test.if1.false in
-    c.refuse2.ensures
-    ∙ sym (answer-large a.lim a.most a.s.now shape (omega (arith, c.before.if2.true, at_count.get-number.ensures)))
+    let a = c.args in
+    let shape = sym c.is_shaped.ensures ∙ c.if-not-is_shaped.false in
+    c.refuse-then-most-count.ensures
+    ∙ sym (answer-large a.lim a.most a.s.now shape (omega (arith, c.if-most-count.true, c.get_number-count.ensures)))
 
-read-members-requires : tie.Need-read-members-requires
+read-members-requires : tie.Need-read_members-run-requires
 read-members-requires c κs =
-    let at_test = c.before.before in
-    let a = at_test.before.before.before.args in
-    let shape = sym at_test.before.is-shaped.ensures ∙ not-false _ at_test.if1.false in
-    omega (arith, (shaped a.s.now shape).whole, c.before.get-number.ensures)
+    let a = c.args in
+    let shape = sym c.is_shaped.ensures ∙ c.if-not-is_shaped.false in
+    omega (arith, (shaped a.s.now shape).whole, c.get_number-count.ensures)
 
-returns-3 : tie.Need-returns-3
+returns-3 : tie.Need-returns-in-Right
 returns-3 c =
-    let at_room = c.before.before.before in
-    let at_count = at_room.before in
-    let at_test = at_count.before in
-    let start = at_test.before.before.before in
-    let a = start.args in
+    let a = c.args in
     let s = a.s.now in
-    let shape = sym at_test.before.is-shaped.ensures ∙ not-false _ at_test.if1.false in
-    let count = at_count.get-number.ensures in
-    let run = ap (λ n. members_above a.lim s 4 0 n) (sym count) ∙ sym c.before.before.read-members.ensures ∙ c.enum_told.given.1 in
+    let shape = sym c.is_shaped.ensures ∙ c.if-not-is_shaped.false in
+    let count = c.get_number-count.ensures in
+    let run = ap (λ n. members_above a.lim s 4 0 n) (sym count) ∙ sym c.read_members-run.ensures ∙ c.in-Right.is in
     ap Reading.Count count
-    ∙ sym (answer-right a.lim a.most s shape (omega (arith, count, at_room.if2.false))
-    (λ i. (at_test.before.before.shared-slice-known.given i).fits) run)
+    ∙ sym (answer-right a.lim a.most s shape (omega (arith, count, c.if-most-count.false))
+    (λ i. (c.shared_slice_known-1.given i).fits) run)
 
-returns-4 : tie.Need-returns-4
+returns-4 : tie.Need-returns-in-Refused
 returns-4 c =
-    let at-read-members = c.before.before.before in
-    let at_room = at-read-members.before in
-    let at_count = at_room.before in
-    let at_test = at_count.before in
-    let start = at_test.before.before.before in
-    let a = start.args in
+    let a = c.args in
     let s = a.s.now in
-    let shape = sym at_test.before.is-shaped.ensures ∙ not-false _ at_test.if1.false in
-    let count = at_count.get-number.ensures in
-    let run = ap (λ n. members_above a.lim s 4 0 n) (sym count) ∙ sym at-read-members.read-members.ensures ∙ c.before.run.given.1 in
-    sym (answer-member a.lim a.most s shape (omega (arith, count, at_room.if2.false))
-    (λ i. (at_test.before.before.shared-slice-known.given i).fits) _ run)
+    let shape = sym c.is_shaped.ensures ∙ c.if-not-is_shaped.false in
+    let count = c.get_number-count.ensures in
+    let run = ap (λ n. members_above a.lim s 4 0 n) (sym count) ∙ sym c.read_members-run.ensures ∙ c.in-Refused.is in
+    sym (answer-member a.lim a.most s shape (omega (arith, count, c.if-most-count.false))
+    (λ i. (c.shared_slice_known-1.given i).fits) _ run)
 
 pub read_set_spec : {M : Type 1} → statement M
 read_set_spec =

@@ -10,8 +10,8 @@ use Rattle.set.proofs.search.member_key.Tie as tie
 
 returns : tie.Need-returns
 returns c =
-    let a = c.before.before.before.args in
-    c.key-at.ensures ∙ ap key_at (part_to_end a.set.now (4 + 5 * a.i))
+    let a = c.args in
+    c.key_at.ensures ∙ ap key_at (part_to_end a.set.now (4 + 5 * a.i))
 
 pub member_key_spec : {M : Type 1} → statement M
 member_key_spec =

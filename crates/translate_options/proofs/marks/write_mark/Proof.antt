@@ -10,12 +10,9 @@ use Rattle.translate_options.proofs.marks.write_mark.Tie as tie
 
 returns : tie.Need-returns
 returns c =
-    let at-encode = c.before.before in
-    let at-option-at = at-encode.before.before.before in
-    let at-tag-at = at-option-at.before in
-    let a = at-tag-at.before.before.before.args in
-    let same = at-encode.before.before.mark-option.ensures ∙ ap₂ (mark_of a.derived) at-tag-at.tag_at.ensures at-option-at.option-at.ensures in
-    at-encode.encode.ensures ∙ ap (λ x. write a.out.now a.to (encoded x)) same
+    let a = c.args in
+    let same = c.mark_option-mark.ensures ∙ ap₂ (mark_of a.derived) c.tag_at-tag.ensures c.option_at-option.ensures in
+    c.encode.ensures ∙ ap (λ x. write a.out.now a.to (encoded x)) same
 
 pub write_mark_spec : {M : Type 1} → statement M
 write_mark_spec =

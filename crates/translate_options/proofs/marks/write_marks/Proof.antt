@@ -17,38 +17,35 @@ use Rattle.translate_options.proofs.Laws.Marks.{marks, marks-first, marks-none}
 use Rattle.translate_options.proofs.marks.write_marks.Statement.{statement}
 use Rattle.translate_options.proofs.marks.write_marks.Tie as tie
 
-abbrev invariant-loop : tie.invariant-loop
+abbrev invariant-loop : tie.invariant-loop-left
 invariant-loop derived s heads out₀ to at₀ next₀ left₀ out at next left =
     (at + 5 * left ≤ length s) × (next + 5 * left ≤ length out) × (length out ≡ length out₀)
     × (write out₀ to (marks s derived (tag_at s) 7 heads) ≡ write out next (marks s derived (tag_at s) at left))
 
-abbrev decreases-loop : tie.decreases-loop
+abbrev decreases-loop : tie.decreases-loop-left
 decreases-loop derived s heads out₀ to at₀ next₀ left₀ out at next left = left
 
-loop-again : tie.Need-loop-preserved invariant-loop decreases-loop
+loop-again : tie.Need-loop-left-preserved invariant-loop decreases-loop
 loop-again c =
-    let at-write-mark = c.before.before in
-    let at-loop = at-write-mark.before.before.before in
-    let l = at-loop.loop in
-    let a = at-loop.before.before.before.args in
+    let l = c.loop-left in
+    let a = c.args in
     let s = a.s.now in
     let t = tag_at s in
     let m = mark_of a.derived t (option_at s l.at) in (
       search rules,
       search rules,
       search rules,
-      l.invariant.3 ∙ ap (write l.out l.next) (marks-first s a.derived t l.at l.left at-write-mark.before.before.loop-test.true)
+      l.invariant.3 ∙ ap (write l.out l.next) (marks-first s a.derived t l.at l.left c.loop-left-test.true)
           ∙ write-left l.out l.next (encoded m) (l.next + 5) (marks s a.derived t (l.at + 5) (l.left - 1)) (omega arith)
-          (omega (arith, length-encoded m)) _ at-write-mark.write-mark.ensures,
+          (omega (arith, length-encoded m)) _ c.write_mark.ensures,
     )
 
 returns : tie.Need-returns invariant-loop decreases-loop
 returns c =
-    let at-loop = c.before in
-    let l = at-loop.loop in
-    let a = at-loop.before.before.before.args in
+    let l = c.loop-left in
+    let a = c.args in
     let s = a.s.now in
-    sym (l.invariant.3 ∙ ap (write l.out l.next) (marks-none s a.derived (tag_at s) l.at l.left c.loop-test.false) ∙ write-nil l.out l.next)
+    sym (l.invariant.3 ∙ ap (write l.out l.next) (marks-none s a.derived (tag_at s) l.at l.left c.loop-left-test.false) ∙ write-nil l.out l.next)
 
 pub write_marks_spec : {M : Type 1} → statement M
 write_marks_spec =

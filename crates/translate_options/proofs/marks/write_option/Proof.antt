@@ -10,10 +10,8 @@ use Rattle.translate_options.proofs.marks.write_option.Tie as tie
 
 returns : tie.Need-returns
 returns c =
-    let at-encode = c.before.before in
-    let at-option-at = at-encode.before.before in
-    let a = at-option-at.before.before.before.args in
-    at-encode.encode.ensures ∙ ap (λ x. write a.out.now a.to (encoded (Signed x))) at-option-at.option-at.ensures
+    let a = c.args in
+    c.encode.ensures ∙ ap (λ x. write a.out.now a.to (encoded (Signed x))) c.option_at-option.ensures
 
 pub write_option_spec : {M : Type 1} → statement M
 write_option_spec = tie.close (tie.spec (λ c κs. search rules) (λ c κs. search rules) (λ c. search rules) returns)

@@ -19,19 +19,14 @@ use Rattle.translate_options.proofs.options.write_derived.Tie as tie
 
 returns : tie.Need-returns
 returns c =
-    let at-write-mark-arg2 = c.before.before.before in
-    let at-write-option = at-write-mark-arg2.before.before.before in
-    let at-out2 = at-write-option.before.before.before in
-    let at-slice-known2 = at-out2.before.before.before in
-    let at-write-header-arg = at-slice-known2.before.before.before in
-    let a = at-write-header-arg.before.before.before.args in
+    let a = c.args in
     let t = tag_at a.s.now in
     let o = option_at a.s.now a.at in
     let pair = (header 1 1 1 ++ encoded (mark_of true t o)) ++ encoded (Signed o) in
     let one = pair-written a.out.now _ _ _ a.to 1 1 1 (mark_of true t o) (Signed o) (omega arith)
-    at-slice-known2.before.before.write-header.ensures at-out2.before.write-mark.ensures at-write-option.write-option.ensures in
+    c.write_header.ensures c.write_mark.ensures c.write_option.ensures in
     write-behind a.out.now a.to pair (a.to + 17) (encoded (mark_of false t o)) (omega arith)
-    (omega (arith, length-pair 1 1 1 (mark_of true t o) (Signed o))) one c.before.before.write-mark2.ensures
+    (omega (arith, length-pair 1 1 1 (mark_of true t o) (Signed o))) one c.write_mark-2.ensures
     ∙ ap (write a.out.now a.to) (derived-pieces t o)
 
 pub write_derived_spec : {M : Type 1} → statement M

@@ -14,15 +14,11 @@ use Rattle.translate_options.proofs.options.write_holds.Tie as tie
 
 returns : tie.Need-returns
 returns c =
-    let at-write-mark-arg = c.before.before.before in
-    let at-write-option = at-write-mark-arg.before.before.before in
-    let at_out = at-write-option.before.before.before in
-    let at-slice-known = at_out.before.before.before in
-    let a = at-slice-known.before.before.args in
+    let a = c.args in
     let t = tag_at a.s.now in
     let o = option_at a.s.now a.at in
     pair-written a.out.now _ _ _ a.to 1 1 0 (Signed o) (mark_of true t o) (omega arith)
-    at_out.before.write-header.ensures at-write-option.write-option.ensures c.before.before.write-mark.ensures
+    c.write_header.ensures c.write_option.ensures c.write_mark.ensures
     ∙ ap (write a.out.now a.to) (holds-pieces t o)
 
 pub write_holds_spec : {M : Type 1} → statement M

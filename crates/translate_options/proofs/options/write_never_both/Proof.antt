@@ -13,15 +13,11 @@ use Rattle.translate_options.proofs.options.write_never_both.Tie as tie
 
 returns : tie.Need-returns
 returns c =
-    let at-write-mark-arg2 = c.before.before.before in
-    let at-write-mark = at-write-mark-arg2.before.before.before in
-    let at_out = at-write-mark.before.before.before in
-    let at-slice-known = at_out.before.before.before in
-    let a = at-slice-known.before.before.args in
+    let a = c.args in
     let t = tag_at a.s.now in
     let o = option_at a.s.now a.at in
     pair-written a.out.now _ _ _ a.to 0 2 0 (mark_of true t o) (mark_of false t o) (omega arith)
-    at_out.before.write-header.ensures at-write-mark.write-mark.ensures c.before.before.write-mark2.ensures
+    c.write_header.ensures c.write_mark.ensures c.write_mark-2.ensures
     ∙ ap (write a.out.now a.to) (never-both-pieces t o)
 
 pub write_never_both_spec : {M : Type 1} → statement M

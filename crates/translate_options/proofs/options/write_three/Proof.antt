@@ -17,11 +17,7 @@ use Rattle.translate_options.proofs.options.write_three.Tie as tie
 
 returns : tie.Need-returns
 returns c =
-    let at-write-never-both-arg = c.before.before.before in
-    let at-write-derived = at-write-never-both-arg.before.before.before in
-    let at_out = at-write-derived.before.before.before in
-    let at-slice-known = at_out.before.before.before in
-    let a = at-slice-known.before.before.args in
+    let a = c.args in
     let s = a.s.now in
     let d = a.out.now in
     let t = tag_at s in
@@ -29,9 +25,9 @@ returns c =
     let four = encoded_rule (holds_if_derived t o) in
     let five = encoded_rule (derived_if_holds t o) in
     let one = write-behind d a.to four (a.to + 17) five (omega arith) (omega (arith, length-holds t o))
-    at_out.before.write-holds.ensures at-write-derived.write-derived.ensures in
+    c.write_holds.ensures c.write_derived.ensures in
     write-behind d a.to (four ++ five) (a.to + 39) (encoded_rule (never_both t o)) (omega arith)
-    (omega (arith, length-append four five, length-holds t o, length-derived t o)) one c.before.before.write-never-both.ensures
+    (omega (arith, length-append four five, length-holds t o, length-derived t o)) one c.write_never_both.ensures
     ∙ ap (write d a.to) (option-pieces t o)
 
 pub write_three_spec : {M : Type 1} → statement M

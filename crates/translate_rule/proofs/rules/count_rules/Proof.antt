@@ -8,22 +8,22 @@ use Rattle.translate_rule.specs.Code.{count_at}
 use Rattle.translate_rule.proofs.rules.count_rules.Statement.{statement}
 use Rattle.translate_rule.proofs.rules.count_rules.Tie as tie
 
-cast-heads : tie.Need-overflow-cast-heads
-cast-heads c = omega (arith, c.shared-slice-known.given 4)
+cast-heads : tie.Need-overflow_cast-heads
+cast-heads c = omega (arith, c.shared_slice_known-1.given 4)
 
-mul-result : tie.Need-overflow-mul-result
-mul-result c = omega (arith, c.before.before.shared-slice-known.given 4)
+mul-result : tie.Need-overflow_mul-result
+mul-result c = omega (arith, c.shared_slice_known-1.given 4)
 
-add-result : tie.Need-overflow-add-result
-add-result c = omega (arith, c.before.before.shared-slice-known.given 4)
+add-result : tie.Need-overflow_add-result
+add-result c = omega (arith, c.shared_slice_known-1.given 4)
 
-returns : tie.Need-returns
+returns : tie.Need-returns-then-s-eq68
 unfolding count_at
-returns c = rw (eq-eqb (letter_of c.before.before.before.args.s.now) defeasible_letter c.if1.true)
+returns c = rw (eq-eqb (letter_of c.args.s.now) defeasible_letter c.if-s-eq68.true)
 
-returns-2 : tie.Need-returns-2
+returns-2 : tie.Need-returns-else-s-eq68
 unfolding count_at
-returns-2 c = rw (ne_eqb (letter_of c.before.before.before.args.s.now) defeasible_letter c.if1.false)
+returns-2 c = rw (ne_eqb (letter_of c.args.s.now) defeasible_letter c.if-s-eq68.false)
 
 pub count_rules_spec : {M : Type 1} → statement M
 count_rules_spec = tie.close (tie.spec (λ c. search rules) cast-heads (λ c. search rules) mul-result add-result returns returns-2)

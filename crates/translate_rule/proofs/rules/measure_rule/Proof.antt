@@ -14,26 +14,23 @@ use Rattle.translate_rule.proofs.rules.measure_rule.Tie as tie
 abbrev Counted : List ℕ → Type 0
 Counted s = (head_count s < 256) × (positive_count s < 256) × (naf_count s < 256)
 
-counts : (c : tie.After-shared-slice-known) → Counted c.before.args.s.now
-counts c = ((c.shared-slice-known.given 4).fits, (c.shared-slice-known.given 5).fits, (c.shared-slice-known.given 6).fits)
+counts : (c : tie.After-shared_slice_known-1) → Counted c.args.s.now
+counts c = ((c.shared_slice_known-1.given 4).fits, (c.shared_slice_known-1.given 5).fits, (c.shared_slice_known-1.given 6).fits)
 
-abbrev known_of : tie.After-shared-slice-known4 → tie.After-shared-slice-known
-known_of c = c.before.before.before
-
-returns : tie.Need-returns
+returns : tie.Need-returns-then-s-eq68
 unfolding length_at
-returns c = rw (eq-eqb (letter_of (known_of c.before).before.args.s.now) defeasible_letter c.if1.true)
+returns c = rw (eq-eqb (letter_of c.args.s.now) defeasible_letter c.if-s-eq68.true)
 
-returns-2 : tie.Need-returns-2
+returns-2 : tie.Need-returns-else-s-eq68
 unfolding length_at
-returns-2 c = rw (ne_eqb (letter_of (known_of c.before).before.args.s.now) defeasible_letter c.if1.false)
+returns-2 c = rw (ne_eqb (letter_of c.args.s.now) defeasible_letter c.if-s-eq68.false)
 
 pub measure_rule_spec : {M : Type 1} → statement M
 measure_rule_spec =
     tie.close (tie.spec (λ c. search rules) (λ c. omega (arith, counts c)) (λ c. search rules) (λ c. omega (arith, counts c.before))
     (λ c. search rules) (λ c. omega (arith, counts c.before.before)) (λ c. search rules)
-    (λ c. omega (arith, counts (known_of c.before))) (λ c. omega (arith, counts (known_of c.before)))
-    (λ c. omega (arith, counts (known_of c.before))) (λ c. omega (arith, counts (known_of c.before)))
-    (λ c. omega (arith, counts (known_of c.before))) (λ c. omega (arith, counts (known_of c.before)))
-    (λ c. omega (arith, counts (known_of c.before))) (λ c. omega (arith, counts (known_of c.before)))
-    (λ c. omega (arith, counts (known_of c.before))) returns returns-2)
+    (λ c. omega (arith, counts c.before.before.before.before)) (λ c. omega (arith, counts c.before.before.before.before))
+    (λ c. omega (arith, counts c.before.before.before.before)) (λ c. omega (arith, counts c.before.before.before.before))
+    (λ c. omega (arith, counts c.before.before.before.before)) (λ c. omega (arith, counts c.before.before.before.before))
+    (λ c. omega (arith, counts c.before.before.before.before)) (λ c. omega (arith, counts c.before.before.before.before))
+    (λ c. omega (arith, counts c.before.before.before.before)) returns returns-2)

@@ -24,20 +24,16 @@ use Rattle.translate_rule.proofs.rules.write_all_defeated.Tie as tie
 
 returns : tie.Need-returns
 returns c =
-    let at-write-marks-arg = c.before.before.before in
-    let at-encode = at-write-marks-arg.before.before.before in
-    let at_out = at-encode.before.before.before in
-    let at-shared-slice-known2 = at_out.before.before.before in
-    let a = at-shared-slice-known2.before.before.before.args in
+    let a = c.args in
     let s = a.s.now in
     let d = a.out.now in
     let k = head_count s in
     let mark = encoded (rule_defeated a.n.0) in
     let one = write-behind d a.to (header 1 k 0) (a.to + 7) mark (omega arith) (omega (arith, length-header 1 k 0))
-    at_out.before.write-header.ensures at-encode.encode.ensures in
+    c.write_header.ensures c.encode.ensures in
     write-behind d a.to (header 1 k 0 ++ mark) (a.to + 12) (marks s false (tag_at s) 7 k) (omega arith)
     (omega (arith, length-append (header 1 k 0) mark, length-header 1 k 0, length-encoded (rule_defeated a.n.0))) one
-    c.before.before.write-marks.ensures
+    c.write_marks.ensures
     ∙ ap (write d a.to) (all-defeated-written a.n.0 (tag_at s) (options_at s 7 k) k (length-options-at s k 7))
 
 pub write_all_defeated_spec : {M : Type 1} → statement M

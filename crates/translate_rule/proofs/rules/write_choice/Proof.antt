@@ -22,13 +22,7 @@ use Rattle.translate_rule.proofs.rules.write_choice.Tie as tie
 
 returns : tie.Need-returns
 returns c =
-    let at-encode-arg = c.before.before.before in
-    let at_copy = at-encode-arg.before.before.before in
-    let at-out2 = at_copy.before.before.before in
-    let at-slice-known2 = at-out2.before.before.before in
-    let at-write-header-arg = at-slice-known2.before.before.before in
-    let at-shared-slice-known2 = at-write-header-arg.before.before.before in
-    let a = at-shared-slice-known2.before.before.before.args in
+    let a = c.args in
     let s = a.s.now in
     let d = a.out.now in
     let k = head_count s in
@@ -38,9 +32,9 @@ returns c =
     let seven = length-header k (positive_count s) (naf_count s + 1) in
     let marked = length-marks s true (tag_at s) 7 k in
     let one = write-behind d a.to hd (a.to + 7) ms (omega arith) (omega (arith, seven))
-    at-slice-known2.before.before.write-header.ensures at-out2.before.write-marks.ensures in
+    c.write_header.ensures c.write_marks.ensures in
     let two = write-behind d a.to (hd ++ ms) (a.to + 7 + 5 * k) bs (omega arith)
-    (omega (arith, seven, marked, length-append hd ms)) one at_copy.copy.ensures in
+    (omega (arith, seven, marked, length-append hd ms)) one c.copy.ensures in
     λ t h b e w. write-behind d a.to ((hd ++ ms) ++ bs) (a.to + 7 + 5 * k + 5 * (positive_count s + naf_count s))
     (encoded (rule_defeated a.n.0)) (omega arith)
     (omega (
@@ -52,7 +46,7 @@ returns c =
       length-take (5 * (positive_count s + naf_count s)) (drop (7 + 5 * k) s),
       length-drop (7 + 5 * k) s,
     )) two
-    c.before.before.encode.ensures
+    c.encode.ensures
     ∙ ap (write d a.to) (choice-written s t h b e w a.n.0)
 
 pub write_choice_spec : {M : Type 1} → statement M

@@ -19,12 +19,7 @@ use Rattle.translate_rule.proofs.rules.write_defeasible.Tie as tie
 
 returns : tie.Need-returns
 returns c =
-    let at-write-options-arg = c.before.before.before in
-    let at-write-all-defeated = at-write-options-arg.before.before.before in
-    let at_out = at-write-all-defeated.before.before.before in
-    let at-shared-slice-known4 = at_out.before.before.before in
-    let at-slice-known = at-shared-slice-known4.before.before.before in
-    let a = at-slice-known.before.before.args in
+    let a = c.args in
     let s = a.s.now in
     let d = a.out.now in
     let n = a.n.0 in
@@ -35,10 +30,10 @@ returns c =
     λ t h b e w.
     let two = encoded_rule (choice n t h b e) in
     let one = write-behind d a.to two end2 three (omega arith) (omega (arith, length-choice s t h b e w n))
-    (at_out.before.write-choice.ensures t h b e w) at-write-all-defeated.write-all-defeated.ensures in
+    (c.write_choice.ensures t h b e w) c.write_all_defeated.ensures in
     write-behind d a.to (two ++ three) (end2 + 12 + 5 * k) (encoded_rules (options (tag_at s) os)) (omega arith)
     (omega (arith, length-append two three, length-choice s t h b e w n, length-all-defeated n (tag_at s) os, length-options-at s k 7))
-    one c.before.before.write-options.ensures
+    one c.write_options.ensures
     ∙ ap (write d a.to) (defeasible-written s t h b e w n)
 
 pub write_defeasible_spec : {M : Type 1} → statement M

@@ -7,29 +7,23 @@ use Rattle.translate_rule.proofs.Laws.Sizes.{length-defeasible, length-strict}
 use Rattle.translate_rule.proofs.rules.write_rule.Statement.{statement}
 use Rattle.translate_rule.proofs.rules.write_rule.Tie as tie
 
-write-defeasible-requires : tie.Need-write-defeasible-requires
+write-defeasible-requires : tie.Need-write_defeasible-requires
 write-defeasible-requires c κs =
-    let at-slice-known = c.before.before.before in
-    omega (arith, length-defeasible at-slice-known.before.before.args.s.now c.before.if1.true)
+    omega (arith, length-defeasible c.args.s.now c.if-s-eq68.true)
 
-write-strict-requires : tie.Need-write-strict-requires
+write-strict-requires : tie.Need-write_strict-requires
 write-strict-requires c κs =
-    let at-slice-known = c.before.before.before in
-    omega (arith, length-strict at-slice-known.before.before.args.s.now c.before.if1.false)
+    omega (arith, length-strict c.args.s.now c.if-s-eq68.false)
 
-returns : tie.Need-returns
+returns : tie.Need-returns-then-s-eq68
 returns c =
-    let at-write-defeasible = c.before.before in
-    let at-shared-slice-known2 = at-write-defeasible.before.before.before in
-    let a = at-shared-slice-known2.before.before.before.args in written-defeasible a.s.now a.n.0 a.out.now a.to _
-    at-write-defeasible.before.before.if1.true at-write-defeasible.write-defeasible.ensures
+    let a = c.args in written-defeasible a.s.now a.n.0 a.out.now a.to _
+    c.if-s-eq68.true c.write_defeasible.ensures
 
-returns-2 : tie.Need-returns-2
+returns-2 : tie.Need-returns-else-s-eq68
 returns-2 c =
-    let at-write-strict = c.before.before in
-    let at-shared-slice-known2 = at-write-strict.before.before.before in
-    let a = at-shared-slice-known2.before.before.before.args in written-strict a.s.now a.n.0 a.out.now a.to _
-    at-write-strict.before.before.if1.false at-write-strict.write-strict.ensures
+    let a = c.args in written-strict a.s.now a.n.0 a.out.now a.to _
+    c.if-s-eq68.false c.write_strict.ensures
 
 pub write_rule_spec : {M : Type 1} → statement M
 write_rule_spec =

@@ -16,15 +16,11 @@ use Rattle.translate_rule.proofs.rules.write_strict.Tie as tie
 
 returns : tie.Need-returns
 returns c =
-    let at-copy-arg = c.before.before.before in
-    let at-write-header = at-copy-arg.before.before.before in
-    let at-shared-slice-known3 = at-write-header.before.before.before in
-    let at-shared-slice-known = at-shared-slice-known3.before.before.before in
-    let a = at-shared-slice-known.before.args in
+    let a = c.args in
     let s = a.s.now in
     λ h b k w. write-behind a.out.now a.to (header (head_count s) (positive_count s) (naf_count s)) (a.to + 7)
     (take (5 * (head_count s + positive_count s + naf_count s)) (drop 7 s)) (omega arith)
-    (omega (arith, length-header (head_count s) (positive_count s) (naf_count s))) at-write-header.write-header.ensures c.before.before.copy.ensures
+    (omega (arith, length-header (head_count s) (positive_count s) (naf_count s))) c.write_header.ensures c.copy.ensures
     ∙ ap (write a.out.now a.to) (strict-written s h b k w)
 
 pub write_strict_spec : {M : Type 1} → statement M
