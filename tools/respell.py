@@ -20,7 +20,7 @@ translation-bytes translation-rules up-empty up-long win-empty win-long win-same
 LEMMAS = ["all_new", "both_read", "ended_move", "held_on", "read_byte", "read_number"]
 
 # Letters, digits, primes, and dashes between them: one name of a proof file.
-NAME = re.compile(r"[A-Za-z_][\w'′]*(?:-[\w'′]+)*")
+NAME = re.compile(r"(?<![0-9A-Za-z_])[A-Za-z_][\w'′]*(?:-[\w'′]+)*")
 HUMP = re.compile(r"([a-z0-9])([A-Z])")
 
 

@@ -106,7 +106,7 @@ unfolding negated
 option-sign a = kind-sign (Signed a)
 
 -- a name's first byte goes by the sign
-name-sign : (a : SignedAtom) → get_or (name_text a) 0 0 ≡ cond (negative a) 0x6_e 0x70
+name-sign : (a : SignedAtom) → get_or (name_text a) 0 0 ≡ cond (negative a) 0x6E 0x70
 unfolding name_text negative
 name-sign (Positive a) = refl
 name-sign (Negative a) = refl
@@ -118,7 +118,7 @@ signing =
       written = kind-sign;
       read = λ F bs l e. ap negated_kind (decoded-kind F bs l e) ∙ kind-sign l;
       opposed = λ a. option-sign (opposite a) ∙ opposite-sign a ∙ ap not (sym (option-sign a));
-      named = λ a. name-sign a ∙ ap (λ (b : Bool). cond b 0x6_e 0x70) (sym (option-sign a));
+      named = λ a. name-sign a ∙ ap (λ (b : Bool). cond b 0x6E 0x70) (sym (option-sign a));
     }
 
 pub expanding : Expanding

@@ -93,7 +93,7 @@ pub record Signing : Type 0 where
   -- what clashes with an atom has the other sign
   pub opposed : (a : SignedAtom) → negated_kind (kind (Signed (opposite a))) ≡ not (negated_kind (kind (Signed a)))
   -- an export's name starts with `n` for a negated atom, and with `p` else
-  pub named : (a : SignedAtom) → get_or (name_text a) 0 0 ≡ cond (negated_kind (kind (Signed a))) 0x6_e 0x70
+  pub named : (a : SignedAtom) → get_or (name_text a) 0 0 ≡ cond (negated_kind (kind (Signed a))) 0x6E 0x70
 
 -- 02's Ask 2: what the sheets of a file append to its written rules
 pub record Expanding : Type 0 where

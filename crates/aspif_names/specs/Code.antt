@@ -28,7 +28,7 @@ signed true = negative_atom
 
 unfoldable pub letter_of : Bool → ℕ
 letter_of false = 0x70
-letter_of true = 0x6_e
+letter_of true = 0x6E
 
 unfoldable pub row_from : Bool → ℕ
 row_from false = 0

@@ -25,10 +25,10 @@ abbrev pub blank : ℕ
 blank = 0x20
 
 abbrev pub minus : ℕ
-minus = 0x2_d
+minus = 0x2D
 
 abbrev pub line_end : ℕ
-line_end = 0x0_a
+line_end = 0x0A
 
 -- a number with a blank before it; one under naf is negative
 unfoldable pub field : Bool → ℕ → List ℕ
@@ -74,7 +74,7 @@ text_of xs = first_line ++ (lines xs ++ last_line)
 -- `p` or `n` with the atom
 unfoldable pub name_text : SignedAtom → List ℕ
 name_text (Positive a) = 0x70 ∷ decimal a.0
-name_text (Negative a) = 0x6_e ∷ decimal a.0
+name_text (Negative a) = 0x6E ∷ decimal a.0
 
 unfoldable pub output_of : Name → Output
 output_of x = record { name = name_text x.atom; positive = x.number ∷ []; naf = [] }

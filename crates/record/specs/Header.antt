@@ -16,7 +16,7 @@ end_letter = 0x45
 
 -- O and X: an override, an opposition
 abbrev pub override_letter : ℕ
-override_letter = 0x4_f
+override_letter = 0x4F
 
 abbrev pub opposition_letter : ℕ
 opposition_letter = 0x58
@@ -30,7 +30,7 @@ refusal_letter = 0x52
 
 -- the second byte of each mark; the first is the record's letter
 abbrev pub colon : ℕ
-colon = 0x3_a
+colon = 0x3A
 
 -- the letter of the record that starts t
 abbrev pub letter_of : List ℕ → ℕ

@@ -90,7 +90,7 @@ module _ (n packed : ℕ) (few : n < 1000000) (is : packed ≡ joined (decimal n
       (omega (arith, figures-are)) (omega (arith, many-are)) written)
 
   pub naf-begun : {d f : List ℕ} (b : Bool) (at : ℕ) → b ≡ true → at + 12 ≤ length d
-      → f ≡ write d at (eight_bytes (packed % 72057594037927936 * 65536 + 0x2_d20)) → Begun d f at (field b n) (at + 2 + packed / 72057594037927936)
+      → f ≡ write d at (eight_bytes (packed % 72057594037927936 * 65536 + 0x2D20)) → Begun d f at (field b n) (at + 2 + packed / 72057594037927936)
   unfolding field joined
   naf-begun {d} {f} b at true-b room written =
       subst (λ (c : Bool). Begun d f at (field c n) (at + 2 + packed / 72057594037927936)) (sym true-b)

@@ -9,21 +9,17 @@ use Rattle.aspif_number.proofs.Laws.Rank.{tally-low}
 use Rattle.aspif_number.proofs.marks.mark_place.Statement.{statement}
 use Rattle.aspif_number.proofs.marks.mark_place.Tie as tie
 
-add-counts : tie.Need-overflow-add-counts
+add-counts : tie.Need-overflow_add-counts
 add-counts c =
-    let at-slice-known3 = c.before.before in
-    let start = at-slice-known3.before.before.before in
-    let w = start.args.i / 64 in
-    omega (arith, tally-low start.requires.1 w (at-slice-known3.slice-known3.given w).fits, byte_le (not c.before.is-in.result))
+    let w = c.args.i / 64 in
+    omega (arith, tally-low c.requires.1 w (c.slice_known-3-1.given w).fits, byte_le (not c.is_in.result))
 
 returns : tie.Need-returns
 returns c =
-    let at-is-in = c.before.before in
-    let start = at-is-in.before.before.before.before in
-    let a = start.args in
+    let a = c.args in
     let bits = a.bits.now in
-    rw c.single-at.ensures
-    (gained-place bits a.i start.requires.0, tallied-place bits a.i start.requires.0 a.counts.now start.requires.1 _ at-is-in.is-in.ensures)
+    rw c.single_at.ensures
+    (gained-place bits a.i c.requires.0, tallied-place bits a.i c.requires.0 a.counts.now c.requires.1 _ c.is_in.ensures)
 
 pub mark_place_spec : {M : Type 1} → statement M
 mark_place_spec =

@@ -13,35 +13,30 @@ use Rattle.aspif_number.proofs.Laws.Rank.{below-le, number-below}
 use Rattle.aspif_number.proofs.numbers.number_at.Statement.{statement}
 use Rattle.aspif_number.proofs.numbers.number_at.Tie as tie
 
-abbrev start_of : tie.After-shared-slice-known4 → tie.Start
-start_of c =
-    let at-single-at = c.before.before in
-    at-single-at.before.before.before
-
-sub-below : tie.Need-overflow-sub-below
-sub-below c = omega (arith, c.single-at.ensures, pow_pos (c.before.before.before.args.i % 64))
+sub-below : tie.Need-overflow_sub-below
+sub-below c = omega (arith, c.single_at-below.ensures, pow_pos (c.args.i % 64))
 
 -- what is counted, and that it is at most the place
-counted : (c : tie.After-shared-slice-known4)
-    → get_or (start_of c).args.counts.now ((start_of c).args.i / 64) 0
-    + ones (bit_and (get_or (start_of c).args.bits.now ((start_of c).args.i / 64) 0) (c.before.before.single-at.result - 1))
-    ≡ marked_below (start_of c).args.bits.now (start_of c).args.i
+counted : (c : tie.After-shared_slice_known-4-1)
+    → get_or c.args.counts.now (c.args.i / 64) 0
+    + ones (bit_and (get_or c.args.bits.now (c.args.i / 64) 0) (c.single_at-below.result - 1))
+    ≡ marked_below c.args.bits.now c.args.i
 counted c =
-    let a = (start_of c).args in
-    let p = (start_of c).requires in
-    number-below a.bits.now a.counts.now p.1.1 a.i p.0 _ c.before.before.single-at.ensures
+    let a = c.args in
+    let p = c.requires in
+    number-below a.bits.now a.counts.now p.1.1 a.i p.0 _ c.single_at-below.ensures
 
-few : (c : tie.After-shared-slice-known4) → marked_below (start_of c).args.bits.now (start_of c).args.i ≤ (start_of c).args.i
-few c = below-le (start_of c).args.bits.now (start_of c).args.i
+few : (c : tie.After-shared_slice_known-4-1) → marked_below c.args.bits.now c.args.i ≤ c.args.i
+few c = below-le c.args.bits.now c.args.i
 
 returns : tie.Need-returns
 returns c =
-    let p = (start_of c).requires in
+    let p = c.requires in
     (omega (arith, counted c), omega (arith, counted c, few c, p.0, p.1.0))
 
 pub number_at_spec : {M : Type 1} → statement M
 number_at_spec =
     tie.close (tie.spec (λ c. search rules) (λ c κs. search rules) sub-below (λ c. search rules)
     (λ c. search rules) (λ c. search rules) (λ c. search rules)
-    (λ c. omega (arith, counted c, few c, (start_of c).requires.0, (start_of c).requires.1.0))
-    (λ c. omega (arith, counted c, few c, (start_of c).requires.0, (start_of c).requires.1.0)) returns)
+    (λ c. omega (arith, counted c, few c, c.requires.0, c.requires.1.0))
+    (λ c. omega (arith, counted c, few c, c.requires.0, c.requires.1.0)) returns)

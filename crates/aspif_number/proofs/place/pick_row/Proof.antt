@@ -7,18 +7,18 @@ use Rattle.aspif_number.proofs.Laws.Place.{row-mark, row_last}
 use Rattle.aspif_number.proofs.place.pick_row.Statement.{statement}
 use Rattle.aspif_number.proofs.place.pick_row.Tie as tie
 
-returns : tie.Need-returns
+returns : tie.Need-returns-in-0-to-1
 returns c =
-    let a = c.before.args in omega (arith, row-atoms a.kind a.tag (omega (arith, c.if1.true)))
+    let a = c.args in omega (arith, row-atoms a.kind a.tag (omega (arith, c.in-0-to-1.if-kind-lt2-own.true)))
 
-returns-2 : tie.Need-returns-2
+returns-2 : tie.Need-returns-in-2-to-5
 returns-2 c =
-    let a = c.before.before.args in
-    omega (arith, row-mark a.kind a.tag (omega (arith, c.before.if1.false)) (omega (arith, c.if2.true)))
+    let a = c.args in
+    omega (arith, row-mark a.kind a.tag (omega (arith, c.in-2-to-5.if-kind-lt2-own.false)) (omega (arith, c.in-2-to-5.if-kind-lt6-own.true)))
 
-returns-3 : tie.Need-returns-3
+returns-3 : tie.Need-returns-in_default
 returns-3 c =
-    let a = c.before.before.args in omega (arith, row_last a.kind a.tag (omega (arith, c.if2.false, c.before.if1.false)))
+    let a = c.args in omega (arith, row_last a.kind a.tag (omega (arith, c.in_default.if-kind-lt6-own.false, c.in_default.if-kind-lt2-own.false)))
 
 pub pick_row_spec : {M : Type 1} → statement M
 pick_row_spec =

@@ -12,29 +12,23 @@ use Rattle.aspif_number.proofs.Laws.Place.{row-le, place_in}
 use Rattle.aspif_number.proofs.place.place_at.Statement.{statement}
 use Rattle.aspif_number.proofs.place.place_at.Tie as tie
 
--- the entry; the kind and the tag that the bytes have
-abbrev start_of : tie.After-pick-row → tie.Start
-start_of c =
-    let at-get-number = c.before.before.before in
-    at-get-number.before.before
+abbrev kind : tie.After-pick_row → ℕ
+kind c = get_or c.args.s.now c.args.at 0
 
-abbrev kind : tie.After-pick-row → ℕ
-kind c = get_or (start_of c).args.s.now (start_of c).args.at 0
-
-abbrev tag : tie.After-pick-row → ℕ
-tag c = c.before.before.before.get-number.result
+abbrev tag : tie.After-pick_row → ℕ
+tag c = c.get_number-tag.result
 
 -- the row that is picked, by the bytes, is not far from the start
-row : (c : tie.After-pick-row) → c.pick-row.result ≡ shift + row_of (kind c) (number_at (start_of c).args.s.now ((start_of c).args.at + 1))
-row c = c.pick-row.ensures ∙ ap (λ (t : ℕ). shift + row_of (kind c) t) c.before.before.before.get-number.ensures
+row : (c : tie.After-pick_row) → c.pick_row.result ≡ shift + row_of (kind c) (number_at c.args.s.now (c.args.at + 1))
+row c = c.pick_row.ensures ∙ ap (λ (t : ℕ). shift + row_of (kind c) t) c.get_number-tag.ensures
 
-near : (c : tie.After-pick-row) → c.pick-row.result < 131072
-near c = omega (arith, c.pick-row.ensures, row-le (kind c) (tag c))
+near : (c : tie.After-pick_row) → c.pick_row.result < 131072
+near c = omega (arith, c.pick_row.ensures, row-le (kind c) (tag c))
 
 returns : tie.Need-returns
 returns c =
-    let a = (start_of c).args in
-    omega (arith, row c, c.before.before.get-number2.ensures, place_in a.s.now a.at)
+    let a = c.args in
+    omega (arith, row c, c.get_number-number.ensures, place_in a.s.now a.at)
 
 pub place_at_spec : {M : Type 1} → statement M
 place_at_spec =

@@ -12,24 +12,19 @@ use Rattle.check_clash.proofs.Laws.Clash.{opposed-mark, opposed-signed}
 use Rattle.check_clash.proofs.clash.is_opposed.Statement.{statement}
 use Rattle.check_clash.proofs.clash.is_opposed.Tie as tie
 
-returns : tie.Need-returns
+returns : tie.Need-returns-then-kind-gt1
 returns c =
-    let at-shared-slice-known = c.before.before.before in
-    let a = at-shared-slice-known.before.args in
-    sym (opposed-mark a.set.now a.n a.t.now (omega (arith, c.if1.true)))
+    let a = c.args in
+    sym (opposed-mark a.set.now a.n a.t.now (omega (arith, c.if-kind-gt1.true)))
 
-returns-2 : tie.Need-returns-2
+returns-2 : tie.Need-returns
 returns-2 c =
-    let at-oppose = c.before.before in
-    let at_sign = at-oppose.before in
-    let at_test = at_sign.before.before in
-    let at-shared-slice-known = at_test.before.before.before in
-    let a = at-shared-slice-known.before.args in
-    let atom = at_sign.sign.ensures ∙ ap (signed_atom (get_or a.t.now 0 0)) at_sign.before.get-atom.ensures in
+    let a = c.args in
+    let atom = c.sign-atom.ensures ∙ ap (signed_atom (get_or a.t.now 0 0)) c.get_atom.ensures in
     c.holds.ensures
-    ∙ ap (has_key a.set.now a.n) c.before.key_of.ensures
-    ∙ ap (λ (x : SignedAtom). key_set a.set.now a.n (Signed x)) (at-oppose.oppose.ensures ∙ ap opposite atom)
-    ∙ sym (opposed-signed a.set.now a.n a.t.now (omega (arith, at_test.if1.false)))
+    ∙ ap (has_key a.set.now a.n) c.key_of.ensures
+    ∙ ap (λ (x : SignedAtom). key_set a.set.now a.n (Signed x)) (c.oppose.ensures ∙ ap opposite atom)
+    ∙ sym (opposed-signed a.set.now a.n a.t.now (omega (arith, c.if-kind-gt1.false)))
 
 pub is_opposed_spec : {M : Type 1} → statement M
 is_opposed_spec =

@@ -16,12 +16,12 @@ returns c =
     let bodies = a.bodies.now in
     let heads = a.heads.now in
     first-smaller a.set bodies heads a.count
-    (first-none {P = Candidate (Model a.set bodies heads a.count) 0 a.set} (c.if-not-any.true)
+    (first-none {P = Candidate (Model a.set bodies heads a.count) 0 a.set} (not-true _ c.if-not-any.true)
     c.settle-any.ensures)
 
 lower-requires : tie.Need-lower-requires
 lower-requires c κs =
-    (c.requires.0, c.requires.1, c.settle-any.ensures.passes (c.if-not-any.false))
+    (c.requires.0, c.requires.1, c.settle-any.ensures.passes (not-false _ c.if-not-any.false))
 
 returns-2 : tie.Need-returns
 returns-2 c =

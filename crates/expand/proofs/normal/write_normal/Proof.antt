@@ -13,29 +13,20 @@ use Rattle.expand.proofs.Laws.Places.{zeros, empty-arrays}
 use Rattle.expand.proofs.normal.write_normal.Statement.{statement}
 use Rattle.expand.proofs.normal.write_normal.Tie as tie
 
--- the entry, and what the first pass holds
-abbrev start_of : tie.After-others → tie.Start
-start_of c =
-    let at_low = c.before.before.before in
-    at_low.before.before.before.before.before
-
-abbrev entry : tie.After-write-front → tie.Start
-entry c = start_of c.before
-
-abbrev held : tie.After-write-front → State
+abbrev held : tie.After-write_front-held → State
 held c =
-    let l = c.write-front.new.1 in
-    state l.0 l.1.0 l.1.1.0 l.1.1.1.0 l.1.1.1.1.0 l.1.1.1.1.1.0 c.write-front.result
+    let l = c.write_front-held.new.1 in
+    state l.0 l.1.0 l.1.1.0 l.1.1.1.0 l.1.1.1.1.0 l.1.1.1.1.1.0 c.write_front-held.result
 
-appendable : (c : tie.After-write-front) → HoldsFile (Expandable (length (entry c).args.out.now)) (entry c).args.s.now
+appendable : (c : tie.After-write_front-held) → HoldsFile (Expandable (length c.args.out.now)) c.args.s.now
     → Appendable (held c) (replicate option_places 0) (replicate option_places 0)
 appendable c w =
-    let k = c.write-front.auto.1.1 in
+    let k = c.write_front-held.auto.1.1 in
     record {
-      came = (entry c).args.out.now;
+      came = c.args.out.now;
       items = w.items;
       asked = w.asked;
-      fronted = c.write-front.ensures w;
+      fronted = c.write_front-held.ensures w;
       up_long = k.0;
       low_long = k.1.0;
       lowers_long = k.1.1.0;
@@ -47,25 +38,16 @@ appendable c w =
       lose_empty = zeros option_places;
     }
 
-write-front-requires : tie.Need-write-front-requires
-write-front-requires c κs = ((start_of c).requires, empty-arrays tag_places sheet_places refl refl)
+write-front-requires : tie.Need-write_front-held-requires
+write-front-requires c κs = (c.requires, empty-arrays tag_places sheet_places refl refl)
 
--- where the second pass starts
-abbrev front_of : tie.After-lose → tie.After-write-front
-front_of c =
-    let at-low3 = c.before.before.before.before.before in
-    let at-ones2 = at-low3.before.before.before.before in
-    let shr_slice_at = at-ones2.before.before.before.before in
-    shr_slice_at.before.before
-
-write-behind-requires : tie.Need-write-behind-requires
-write-behind-requires c κs = let at_front = front_of c in appendable at_front (entry at_front).pre
+write-behind-requires : tie.Need-write_behind-size-requires
+write-behind-requires c κs = appendable c.before.before.before.before.before.before.before.before.before.before.before.before.before.before.before c.requires
 
 returns : tie.Need-returns
 unfolding appendable
 returns c =
-    let at-behind = c.before.before.before.before in
-    ((λ w. at-behind.write-behind.ensures (appendable (front_of at-behind.before) w)), refl)
+    ((λ w. c.write_behind-size.ensures (appendable c.before.before.before.before.before.before.before.before.before.before.before.before.before.before.before.before.before.before.before.before w)), refl)
 
 pub write_normal_spec : {M : Type 1} → statement M
 write_normal_spec =

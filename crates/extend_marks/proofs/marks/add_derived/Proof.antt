@@ -8,11 +8,9 @@ use Rattle.extend_marks.proofs.marks.add_derived.Tie as tie
 
 returns : tie.Need-returns
 returns c =
-    let at-key-of = c.before in
-    let start = at-key-of.before.before.before in
-    let a = start.args in
-    gained-option a.t (key_set a.set.now a.count) a.a a.keys.now a.n at-key-of.key_of.result
-    c.is-derived.result at-key-of.key_of.ensures c.is-derived.ensures start.requires.1.1
+    let a = c.args in
+    gained-option a.t (key_set a.set.now a.count) a.a a.keys.now a.n c.key_of.result
+    c.is_derived.result c.key_of.ensures c.is_derived.ensures c.requires.1.1
 
 pub add_derived_spec : {M : Type 1} → statement M
 add_derived_spec =

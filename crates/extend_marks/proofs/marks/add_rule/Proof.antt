@@ -9,54 +9,39 @@ use Rattle.extend_marks.proofs.Laws.Rule.{gained-strict, gained-defeated, gained
 use Rattle.extend_marks.proofs.marks.add_rule.Statement.{statement}
 use Rattle.extend_marks.proofs.marks.add_rule.Tie as tie
 
-returns : tie.Need-returns
+returns : tie.Need-returns-then-part-ne68
 returns c =
-    let at-shared-slice-known2 = c.before.before.before in
-    let a = at-shared-slice-known2.before.before.args in
-    gained-strict (key_set a.set.now a.count) a.number.0 a.part.now a.keys.now a.n c.if1.true
+    let a = c.args in
+    gained-strict (key_set a.set.now a.count) a.number.0 a.part.now a.keys.now a.n c.if-part-ne68.true
 
-is-defeated-requires : tie.Need-is-defeated-requires
+is-defeated-requires : tie.Need-is_defeated-requires
 is-defeated-requires c κs =
-    let at-shared-slice-known2 = c.before.before.before in
-    let p = at-shared-slice-known2.before.before.requires in (p.0, (p.1.0, p.1.1.0))
+    let p = c.requires in (p.0, (p.1.0, p.1.1.0))
 
--- the entry, from where the rule's own mark is put; there is room for it, since the rule is defeasible
-abbrev start_of : tie.After-key-of → tie.Start
-start_of c =
-    let at-if1 = c.before.before.before in
-    let at-shared-slice-known2 = at-if1.before.before.before in
-    at-shared-slice-known2.before.before
+room : (c : tie.After-key_of) → c.args.n < length c.args.keys.now
+room c = (c.requires.1.1.1 c.if-part-ne68.false).1
 
-room : (c : tie.After-key-of) → (start_of c).args.n < length (start_of c).args.keys.now
-room c = ((start_of c).requires.1.1.1 c.before.before.before.if1.false).1
-
-mul-keys : tie.Need-overflow-mul-keys
+mul-keys : tie.Need-offset_bounds-keys-n
 mul-keys c = let enough = room c in search rules
 
-slice-write-keys : tie.Need-slice-write-keys
+slice-write-keys : tie.Need-bounds-keys-n
 slice-write-keys c = let enough = room c in search rules
 
-returns-2 : tie.Need-returns-2
+returns-2 : tie.Need-returns-then-is_defeated
 returns-2 c =
-    let at-if1 = c.before.before.before in
-    let a = (start_of c).args in
-    gained-defeated (key_set a.set.now a.count) a.number.0 a.part.now a.keys.now a.n c.key_of.result at-if1.if1.false
-    (sym c.before.before.is-defeated.ensures ∙ c.before.if2.true) c.key_of.ensures (room c)
+    let a = c.args in
+    gained-defeated (key_set a.set.now a.count) a.number.0 a.part.now a.keys.now a.n c.key_of.result c.if-part-ne68.false
+    (sym c.is_defeated.ensures ∙ c.if-is_defeated.true) c.key_of.ensures (room c)
 
-add-options-requires : tie.Need-add-options-requires
+add-options-requires : tie.Need-add_options-requires
 add-options-requires c κs =
-    let at-if1 = c.before.before.before in
-    let at-shared-slice-known2 = at-if1.before.before.before in
-    let p = at-shared-slice-known2.before.before.requires in (p.0, (p.1.0, (p.1.1.0, (p.1.1.1 at-if1.if1.false).0)))
+    let p = c.requires in (p.0, (p.1.0, (p.1.1.0, (p.1.1.1 c.if-part-ne68.false).0)))
 
-returns-3 : tie.Need-returns-3
+returns-3 : tie.Need-returns
 returns-3 c =
-    let at-add-options = c.before.before in
-    let at-is-defeated = at-add-options.before.before.before in
-    let at-slice-known = at-is-defeated.before.before.before in
-    let a = at-slice-known.before.before.before.args in
-    gained-open (key_set a.set.now a.count) a.number.0 a.part.now a.keys.now a.n at-is-defeated.before.if1.false
-    (sym at-is-defeated.is-defeated.ensures ∙ at-add-options.before.before.if2.false) at-add-options.add-options.ensures
+    let a = c.args in
+    gained-open (key_set a.set.now a.count) a.number.0 a.part.now a.keys.now a.n c.if-part-ne68.false
+    (sym c.is_defeated.ensures ∙ c.if-is_defeated.false) c.add_options.ensures
 
 pub add_rule_spec : {M : Type 1} → statement M
 add_rule_spec =

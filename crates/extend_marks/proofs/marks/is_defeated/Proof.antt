@@ -18,12 +18,12 @@ use Rattle.extend_marks.proofs.Laws.Marks.{defeated-next, defeated-not, defeated
 use Rattle.extend_marks.proofs.marks.is_defeated.Statement.{statement}
 use Rattle.extend_marks.proofs.marks.is_defeated.Tie as tie
 
-abbrev invariant-loop : tie.invariant-loop
+abbrev invariant-loop : tie.invariant-loop-left
 invariant-loop set count part t at₀ left₀ at left =
     (at + 5 * left ≤ length part) × (each_of (λ a. key_set set count (Defeated t a)) (options_at part 7 (head_count part))
     ≡ each_of (λ a. key_set set count (Defeated t a)) (options_at part at left))
 
-abbrev decreases-loop : tie.decreases-loop
+abbrev decreases-loop : tie.decreases-loop-left
 decreases-loop set count part t at₀ left₀ at left = left
 
 -- the tag at hand is the record's
@@ -31,59 +31,42 @@ by-tag : (s : List ℕ) (n : ℕ) (x : List ℕ) {t : Tag} → t ≡ tag_at x
     → each_of (λ a. key_set s n (Defeated (tag_at x) a)) (options_at x 7 (head_count x)) ≡ each_of (λ a. key_set s n (Defeated t a)) (options_at x 7 (head_count x))
 by-tag s n x e = ap (λ (u : Tag). each_of (λ a. key_set s n (Defeated u a)) (options_at x 7 (head_count x))) (sym e)
 
-abbrev start_of : tie.After-is-member invariant-loop decreases-loop → tie.Start invariant-loop decreases-loop
-start_of c =
-    let at-loop = c.before.before.before in
-    let at-tag-at = at-loop.before.before in
-    at-tag-at.before.before.before
-
-abbrev tag-at-of : tie.After-is-member invariant-loop decreases-loop → tie.After-tag-at invariant-loop decreases-loop
-tag-at-of c =
-    let at-loop = c.before.before.before in
-    at-loop.before.before
-
 -- whether the option at `at` is defeated
-found : (c : tie.After-is-member invariant-loop decreases-loop)
-    → c.is_member.result ≡ key_set (start_of c).args.set.now (start_of c).args.count
-    (Defeated (tag-at-of c).tag_at.result (option_at (start_of c).args.part.now c.before.before.before.loop.at))
+found : (c : tie.After-is_member invariant-loop decreases-loop)
+    → c.is_member.result ≡ key_set c.args.set.now c.args.count
+    (Defeated c.tag_at-t.result (option_at c.args.part.now c.loop-left.at))
 found c =
-    let at-tag-at = tag-at-of c in
-    let a = at-tag-at.before.before.before.args in
-    c.is_member.ensures ∙ ap (λ (o : SignedAtom). key_set a.set.now a.count (Defeated at-tag-at.tag_at.result o)) c.before.option-at.ensures
+    let a = c.args in
+    c.is_member.ensures ∙ ap (λ (o : SignedAtom). key_set a.set.now a.count (Defeated c.tag_at-t.result o)) c.option_at-a.ensures
 
-returns : tie.Need-returns invariant-loop decreases-loop
+returns : tie.Need-returns-then-not-is_member invariant-loop decreases-loop
 returns c =
-    let at-loop-test = c.before.before.before in
-    let at-tag-at = at-loop-test.before.before.before in
-    let a = at-tag-at.before.before.before.args in
+    let a = c.args in
     let set = a.set.now in
     let part = a.part.now in
-    let l = at-loop-test.before.loop in
-    let t = at-tag-at.tag_at in
+    let l = c.loop-left in
+    let t = c.tag_at-t in
     sym (by-tag set a.count part t.ensures ∙ l.invariant.1
-    ∙ defeated-not t.result (key_set set a.count) part l.at l.left at-loop-test.loop-test.true
-    (sym (found c.before) ∙ not-true _ c.if1.true))
+    ∙ defeated-not t.result (key_set set a.count) part l.at l.left c.loop-left-test.true
+    (sym (found c.before) ∙ c.if-not-is_member.true))
 
-loop-again : tie.Need-loop-preserved invariant-loop decreases-loop
+loop-again : tie.Need-loop-left-preserved invariant-loop decreases-loop
 loop-again c =
-    let at-loop-test = c.before.before.before in
-    let at-tag-at = at-loop-test.before.before.before in
-    let a = at-tag-at.before.before.before.args in
-    let l = at-loop-test.before.loop in
-    let t = at-tag-at.tag_at in (
+    let a = c.args in
+    let l = c.loop-left in
+    let t = c.tag_at-t in (
       search rules,
       l.invariant.1 ∙ defeated-next t.result (key_set a.set.now a.count) a.part.now l.at l.left
-          at-loop-test.loop-test.true (sym (found c.before) ∙ not-false _ c.if1.false),
+          c.loop-left-test.true (sym (found c.before) ∙ c.if-not-is_member.false),
     )
 
-returns-2 : tie.Need-returns-2 invariant-loop decreases-loop
+returns-2 : tie.Need-returns invariant-loop decreases-loop
 returns-2 c =
-    let at-tag-at = c.before.before.before in
-    let a = at-tag-at.before.before.before.args in
-    let l = c.before.loop in
-    let t = at-tag-at.tag_at in
+    let a = c.args in
+    let l = c.loop-left in
+    let t = c.tag_at-t in
     sym (by-tag a.set.now a.count a.part.now t.ensures ∙ l.invariant.1
-    ∙ defeated-none t.result (key_set a.set.now a.count) a.part.now l.at l.left c.loop-test.false)
+    ∙ defeated-none t.result (key_set a.set.now a.count) a.part.now l.at l.left c.loop-left-test.false)
 
 pub is_defeated_spec : {M : Type 1} → statement M
 is_defeated_spec =

@@ -16,98 +16,78 @@ use Rattle.quotient_rule.proofs.Laws.Options.{left-bytes, step_room, write-none}
 use Rattle.quotient_rule.proofs.options.write_left.Statement.{statement}
 use Rattle.quotient_rule.proofs.options.write_left.Tie as tie
 
-abbrev invariant-loop : tie.invariant-loop
+abbrev invariant-loop : tie.invariant-loop-left
 invariant-loop t heads set count out₀ to at₀ next₀ left₀ found₀ out at next left found =
     (at + 5 * left ≤ length t) × (found + left ≤ heads) × ((next ≡ to + 5 * found) × (next ≤ length out)) × (length out ≡ length out₀)
     × (found + length (left_at t set count at left) ≡ length (left_at t set count 7 heads))
     × (write out₀ to (encoded_literals (left_at t set count 7 heads)) ≡ write out next (encoded_literals (left_at t set count at left)))
 
-abbrev decreases-loop : tie.decreases-loop
+abbrev decreases-loop : tie.decreases-loop-left
 decreases-loop t heads set count out₀ to at₀ next₀ left₀ found₀ out at next left found = left
 
-loop-holds : tie.Need-loop-init invariant-loop decreases-loop
+loop-holds : tie.Need-loop-left-init invariant-loop decreases-loop
 loop-holds c = (search rules, search rules, (search rules, search rules), refl, omega arith, refl)
 
-abbrev start_of : tie.After-write-option-arg invariant-loop decreases-loop → tie.Start invariant-loop decreases-loop
-start_of c =
-    let at-slice-known = c.before.before.before in
-    at-slice-known.before.before.before
-
 -- room for the option at `at`, if it is left
-room : (c : tie.After-write-option-arg invariant-loop decreases-loop)
-    → 0 < length (left_at (start_of c).args.t.now (start_of c).args.set.now (start_of c).args.count c.before.before.loop.at 1)
-    → c.before.before.loop.next + 5 ≤ length c.before.before.loop.out
+room : (c : tie.After-write_option-arg-1 invariant-loop decreases-loop)
+    → 0 < length (left_at c.args.t.now c.args.set.now c.args.count c.loop-left.at 1)
+    → c.loop-left.next + 5 ≤ length c.loop-left.out
 room c h =
-    let start = start_of c in
-    let a = start.args in
-    let l = c.before.before.loop in
-    let more = left-count a.t.now a.set.now a.count l.at l.left c.before.loop-test.true in
-    omega (arith, start.pre.1.1.1.1 (omega (arith, more, l.invariant.4, h)), more, l.invariant.4, l.invariant.3, l.invariant.2.0, h)
+    let a = c.args in
+    let l = c.loop-left in
+    let more = left-count a.t.now a.set.now a.count l.at l.left c.loop-left-test.true in
+    omega (arith, c.requires.1.1.1.1 (omega (arith, more, l.invariant.4, h)), more, l.invariant.4, l.invariant.3, l.invariant.2.0, h)
 
-write-option-requires : tie.Need-write-option-requires invariant-loop decreases-loop
+write-option-requires : tie.Need-write_option-one-requires invariant-loop decreases-loop
 write-option-requires c κs = (search rules, (search rules, (search rules, room c)))
 
-abbrev loop-of : tie.After-slice-known2 invariant-loop decreases-loop → tie.At-loop invariant-loop decreases-loop
-loop-of c =
-    let at-write-option = c.before.before in
-    at-write-option.before.before.before
-
 -- what was written fits
-fits : (c : tie.After-slice-known2 invariant-loop decreases-loop) → (loop-of c).loop.next + 5 * c.before.before.write-option.result ≤ length (loop-of c).loop.out
+fits : (c : tie.After-slice_known-in-loop-left-1 invariant-loop decreases-loop) → c.loop-left.next + 5 * c.write_option-one.result ≤ length c.loop-left.out
 fits c =
-    let at-loop = loop-of c in
-    let at-shared-slice-known = at-loop.before.before.before in
-    let a = at-shared-slice-known.before.args in
-    let l = at-loop.loop in
-    let one = c.before.before.write-option.ensures.0 in
+    let a = c.args in
+    let l = c.loop-left in
+    let one = c.write_option-one.ensures.0 in
     step_room l.next _ (length l.out) (omega (arith, one, left-few a.t.now a.set.now a.count l.at 1))
-    l.inv.2.1 (λ h. room c.before.before.before (omega (arith, one, h)))
+    l.invariant.2.1 (λ h. room c.before.before.before (omega (arith, one, h)))
 
-add-found : tie.Need-overflow-add-found invariant-loop decreases-loop
+add-found : tie.Need-overflow_add-found invariant-loop decreases-loop
 add-found c =
-    let at-write-option = c.before.before in
-    let at-loop = at-write-option.before.before.before in
-    let at-shared-slice-known = at-loop.before.before.before in
-    let a = at-shared-slice-known.before.args in
-    let l = at-loop.loop in
+    let a = c.args in
+    let l = c.loop-left in
     omega (
       arith,
-      at-write-option.write-option.ensures.0,
+      c.write_option-one.ensures.0,
       left-few a.t.now a.set.now a.count l.at 1,
       l.invariant.1,
-      at-write-option.before.before.loop-test.true,
+      c.loop-left-test.true,
     )
 
-loop-again : tie.Need-loop-preserved invariant-loop decreases-loop
+loop-again : tie.Need-loop-left-preserved invariant-loop decreases-loop
 loop-again c =
-    let at-write-option = c.before.before in
-    let at-loop-test = at-write-option.before.before in
-    let at-shared-slice-known2 = at-loop-test.before.before.before in
-    let a = at-shared-slice-known2.before.before.args in
+    let a = c.args in
     let t = a.t.now in
     let set = a.set.now in
-    let l = at-loop-test.before.loop in
-    let one = at-write-option.write-option.ensures.0 in
+    let l = c.loop-left in
+    let one = c.write_option-one.ensures.0 in
     let few = left-few t set a.count l.at 1 in
     let now-left = encoded_literals (left_at t set a.count l.at 1) in
     let later = encoded_literals (left_at t set a.count (l.at + 5) (l.left - 1)) in (
       search rules,
-      omega (arith, one, few, l.invariant.1, at-loop-test.loop-test.true),
-      (omega (arith, l.invariant.2.0), omega (arith, fits c, at-write-option.write-option.auto.1.1.1.1.0)),
-      at-write-option.write-option.auto.1.1.1.1.0 ∙ l.invariant.3,
-      omega (arith, one, left-count t set a.count l.at l.left at-loop-test.loop-test.true, l.invariant.4),
-      l.invariant.5 ∙ ap (write l.out l.next) (left-bytes t set a.count l.at l.left at-loop-test.loop-test.true)
+      omega (arith, one, few, l.invariant.1, c.loop-left-test.true),
+      (omega (arith, l.invariant.2.0), omega (arith, fits c, c.write_option-one.auto.out)),
+      c.write_option-one.auto.out ∙ l.invariant.3,
+      omega (arith, one, left-count t set a.count l.at l.left c.loop-left-test.true, l.invariant.4),
+      l.invariant.5 ∙ ap (write l.out l.next) (left-bytes t set a.count l.at l.left c.loop-left-test.true)
           ∙ write-left l.out l.next now-left _ later l.invariant.2.1
           (omega (arith, one, length-encoded-literals (left_at t set a.count l.at 1))) _
-          at-write-option.write-option.ensures.1,
+          c.write_option-one.ensures.1,
     )
 
 returns : tie.Need-returns invariant-loop decreases-loop
 returns c =
-    let at-shared-slice-known2 = c.before.before.before in
-    let a = at-shared-slice-known2.before.before.args in
-    let l = c.before.loop in
-    let none = left-none a.t.now a.set.now a.count l.at l.left c.loop-test.false in (
+    let a = c.args in
+    let l = c.loop-left in
+    let none = left-none a.t.now a.set.now a.count l.at l.left c.loop-left-test.false in (
       omega (arith, l.invariant.4, ap length none),
       sym (l.invariant.5 ∙ ap (λ ls. write l.out l.next (encoded_literals ls)) none ∙ write-none l.out l.next),
     )

@@ -13,38 +13,31 @@ use Rattle.quotient_rule.proofs.Laws.Options.{write-none, write-one}
 use Rattle.quotient_rule.proofs.options.write_option.Statement.{statement}
 use Rattle.quotient_rule.proofs.options.write_option.Tie as tie
 
-returns : tie.Need-returns
+returns : tie.Need-returns-then-is_defeated
 returns c =
-    let at-shared-slice-known2 = c.before.before.before in
-    let a = at-shared-slice-known2.before.before.args in
-    let gone = left-defeated a.t.now a.set.now a.count a.at (sym c.before.is-defeated.ensures ∙ c.if1.true) in (
+    let a = c.args in
+    let gone = left-defeated a.t.now a.set.now a.count a.at (sym c.is_defeated.ensures ∙ c.if-is_defeated.true) in (
       sym (ap length gone),
       sym (ap (λ ls. write a.out.now a.to (encoded_literals ls)) gone ∙ write-none a.out.now a.to),
     )
 
 encode-requires : tie.Need-encode-requires
 encode-requires c κs =
-    let at-is-defeated = c.before.before.before in
-    let at-shared-slice-known = at-is-defeated.before.before.before in
-    let start = at-shared-slice-known.before in
-    let a = start.args in
-    start.requires.1.1.1 (omega (
+    let a = c.args in
+    c.requires.1.1.1 (omega (
       arith,
       ap length
           (left-kept a.t.now a.set.now a.count a.at
-          (sym at-is-defeated.is-defeated.ensures ∙ c.before.before.if1.false)),
+          (sym c.is_defeated.ensures ∙ c.if-is_defeated.false)),
     ))
 
-returns-2 : tie.Need-returns-2
+returns-2 : tie.Need-returns
 returns-2 c =
-    let at-encode = c.before.before in
-    let at-if1 = at-encode.before.before.before in
-    let at-shared-slice-known2 = at-if1.before.before.before in
-    let a = at-shared-slice-known2.before.before.args in
-    let kept = left-kept a.t.now a.set.now a.count a.at (sym at-if1.before.is-defeated.ensures ∙ at-if1.if1.false) in (
+    let a = c.args in
+    let kept = left-kept a.t.now a.set.now a.count a.at (sym c.is_defeated.ensures ∙ c.if-is_defeated.false) in (
       sym (ap length kept),
-      at-encode.encode.ensures ∙ ap (λ o. write a.out.now a.to (encoded (Signed o)))
-          at-encode.before.before.option-at.ensures
+      c.encode.ensures ∙ ap (λ o. write a.out.now a.to (encoded (Signed o)))
+          c.option_at-option.ensures
           ∙ sym (ap (λ ls. write a.out.now a.to (encoded_literals ls)) kept ∙ write-one a.out.now a.to _),
     )
 

@@ -11,76 +11,55 @@ use Rattle.quotient_rule.proofs.Laws.Remainder.{remainder-removed, remainder-def
 use Rattle.quotient_rule.proofs.remainder.measure_remainder.Statement.{statement}
 use Rattle.quotient_rule.proofs.remainder.measure_remainder.Tie as tie
 
-returns : tie.Need-returns
+returns : tie.Need-returns-then-is_removed
 returns c =
-    let at-is-removed = c.before in
-    let a = at-is-removed.before.before.before.args in
-    sym (ap length (remainder-removed a.t.now a.set.now a.count (sym at-is-removed.is_removed.ensures ∙ c.if1.true)))
+    let a = c.args in
+    sym (ap length (remainder-removed a.t.now a.set.now a.count (sym c.is_removed.ensures ∙ c.if-is_removed.true)))
 
-returns-2 : tie.Need-returns-2
+returns-2 : tie.Need-returns-then-t-ne68
 returns-2 c =
-    let at-shared-slice-known3 = c.before.before.before in
-    let at-is-removed = at-shared-slice-known3.before.before in
-    let start = at-is-removed.before.before.before in
-    let a = start.args in
+    let a = c.args in
     let t = a.t.now in
     sym (ap length (remainder-strict t a.set.now a.count
-    (sym at-is-removed.is_removed.ensures ∙ at-shared-slice-known3.before.if1.false) c.if2.true)
-    ∙ length-strict-bytes t start.requires.0)
+    (sym c.is_removed.ensures ∙ c.if-is_removed.false) c.if-t-ne68.true)
+    ∙ length-strict-bytes t c.requires.0)
 
-count-left-requires : tie.Need-count-left-requires
+count-left-requires : tie.Need-count_left-left-requires
 count-left-requires c κs =
-    let at-shared-slice-known3 = c.before.before.before in
-    let at-is-removed = at-shared-slice-known3.before.before in
-    (search rules, (search rules, at-is-removed.before.before.before.requires.1.1))
+    (search rules, (search rules, c.requires.1.1))
 
-returns-3 : tie.Need-returns-3
+returns-3 : tie.Need-returns-then-left-eq0
 returns-3 c =
-    let at-shared-slice-known5 = c.before.before.before in
-    let at-if1 = at-shared-slice-known5.before.before.before in
-    let at-is-removed = at-if1.before in
-    let a = at-is-removed.before.before.before.args in
+    let a = c.args in
     let t = a.t.now in
-    sym (ap length (remainder-defeasible t a.set.now a.count (sym at-is-removed.is_removed.ensures ∙ at-if1.if1.false)
-    c.before.before.if2.false ∙ option-bytes-none t _ (sym c.before.count_left.ensures ∙ c.if3.true)))
+    sym (ap length (remainder-defeasible t a.set.now a.count (sym c.is_removed.ensures ∙ c.if-is_removed.false)
+    c.if-t-ne68.false ∙ option-bytes-none t _ (sym c.count_left-left.ensures ∙ c.if-left-eq0.true)))
 
-abbrev is-removed-of : tie.Else3 → tie.After-is-removed
-is-removed-of c =
-    let at-if2 = c.before.before in
-    let at-shared-slice-known3 = at-if2.before.before.before in
-    at-shared-slice-known3.before.before
-
-add-result-3 : tie.Need-overflow-add-result-3
+add-result-3 : tie.Need-overflow_add-result-2
 add-result-3 c =
-    let at-is-removed = is-removed-of c in
-    let a = at-is-removed.before.before.before.args in
-    omega (arith, c.before.count_left.ensures, left-few a.t.now a.set.now a.count 7 (head_count a.t.now))
+    let a = c.args in
+    omega (arith, c.count_left-left.ensures, left-few a.t.now a.set.now a.count 7 (head_count a.t.now))
 
-mul-result-2 : tie.Need-overflow-mul-result-2
+mul-result-2 : tie.Need-overflow_mul-result-2
 mul-result-2 c =
-    let at-is-removed = is-removed-of c in
-    let a = at-is-removed.before.before.before.args in
-    omega (arith, c.before.count_left.ensures, left-few a.t.now a.set.now a.count 7 (head_count a.t.now))
+    let a = c.args in
+    omega (arith, c.count_left-left.ensures, left-few a.t.now a.set.now a.count 7 (head_count a.t.now))
 
-add-result-4 : tie.Need-overflow-add-result-4
+add-result-4 : tie.Need-overflow_add-result-3
 add-result-4 c =
-    let at-is-removed = is-removed-of c in
-    let a = at-is-removed.before.before.before.args in
-    omega (arith, c.before.count_left.ensures, left-few a.t.now a.set.now a.count 7 (head_count a.t.now))
+    let a = c.args in
+    omega (arith, c.count_left-left.ensures, left-few a.t.now a.set.now a.count 7 (head_count a.t.now))
 
-returns-4 : tie.Need-returns-4
+returns-4 : tie.Need-returns
 returns-4 c =
-    let at-shared-slice-known5 = c.before.before.before in
-    let at-is-removed = is-removed-of c in
-    let start = at-is-removed.before.before.before in
-    let a = start.args in
+    let a = c.args in
     let t = a.t.now in
     let set = a.set.now in
-    let found = c.before.count_left.ensures in
+    let found = c.count_left-left.ensures in
     let long = ap length (remainder-defeasible t set a.count
-    (sym at-is-removed.is_removed.ensures ∙ at-shared-slice-known5.before.before.before.if1.false)
-    c.before.before.if2.false) in
-    omega (arith, found, long, length-option-bytes t start.pre.0 (left_at t set a.count 7 (head_count t)) (λ e. c.if3.false (found ∙ e)))
+    (sym c.is_removed.ensures ∙ c.if-is_removed.false)
+    c.if-t-ne68.false) in
+    omega (arith, found, long, length-option-bytes t c.requires.0 (left_at t set a.count 7 (head_count t)) (λ e. c.if-left-eq0.false (found ∙ e)))
 
 pub measure_remainder_spec : {M : Type 1} → statement M
 measure_remainder_spec =

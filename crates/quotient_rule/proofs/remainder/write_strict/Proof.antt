@@ -13,41 +13,29 @@ use Rattle.quotient_rule.proofs.Laws.Remainder.{length-strict-bytes}
 use Rattle.quotient_rule.proofs.remainder.write_strict.Statement.{statement}
 use Rattle.quotient_rule.proofs.remainder.write_strict.Tie as tie
 
-write-header-requires : tie.Need-write-header-requires
+write-header-requires : tie.Need-write_header-requires
 write-header-requires c κs =
-    let at-slice-known = c.before.before.before in
-    let start = at-slice-known.before.before in
-    omega (arith, start.requires.1, length-strict-bytes start.args.t.now start.requires.0)
+    omega (arith, c.requires.1, length-strict-bytes c.args.t.now c.requires.0)
 
-add-copy : tie.Need-overflow-add-copy
+add-copy : tie.Need-overflow_add-to
 add-copy c =
-    let at-write-header = c.before.before.before in
-    let at-shared-slice-known2 = at-write-header.before.before.before in
-    let start = at-shared-slice-known2.before.before.before in
-    omega (arith, start.requires.1, length-strict-bytes start.args.t.now start.requires.0)
+    omega (arith, c.requires.1, length-strict-bytes c.args.t.now c.requires.0)
 
 copy-requires : tie.Need-copy-requires
 copy-requires c κs =
-    let at-write-header = c.before.before.before in
-    let at-shared-slice-known2 = at-write-header.before.before.before in
-    let start = at-shared-slice-known2.before.before.before in
-    let long = length-strict-bytes start.args.t.now start.requires.0 in
-    (search rules, omega (arith, start.requires.1, long, at-write-header.write-header.auto.1.1.1.0))
+    let long = length-strict-bytes c.args.t.now c.requires.0 in
+    (search rules, omega (arith, c.requires.1, long, c.write_header.auto.out))
 
 returns : tie.Need-returns
 unfolding strict_bytes
 returns c =
-    let at-copy-arg = c.before.before.before in
-    let at-write-header = at-copy-arg.before.before.before in
-    let at-shared-slice-known2 = at-write-header.before.before.before in
-    let start = at-shared-slice-known2.before.before.before in
-    let a = start.args in
+    let a = c.args in
     let s = a.t.now in
-    let long = length-strict-bytes s start.requires.0 in (
+    let long = length-strict-bytes s c.requires.0 in (
       omega (arith, long),
       write-behind a.out.now a.to (header (head_count s) (positive_count s) 0) (a.to + 7)
           (take (5 * (head_count s + positive_count s)) (drop 7 s)) (omega arith)
-          (omega (arith, length-header (head_count s) (positive_count s) 0)) at-write-header.write-header.ensures c.before.before.copy.ensures,
+          (omega (arith, length-header (head_count s) (positive_count s) 0)) c.write_header.ensures c.copy.ensures,
     )
 
 pub write_strict_spec : {M : Type 1} → statement M

@@ -9,8 +9,8 @@ use Rattle.record_read.proofs.read.read.Tie as tie
 
 returns : tie.Need-returns
 returns c =
-    let a = c.before.before.before.args in
-    c.count-rules.ensures ∙ ap rule_count c.before.read-items.ensures ∙ sym (rules-counted a.lim a.s.now)
+    let a = c.args in
+    c.count_rules.ensures ∙ ap rule_count c.read_items.ensures ∙ sym (rules-counted a.lim a.s.now)
 
 pub read_spec : {M : Type 1} → statement M
 read_spec = tie.close (tie.spec (λ c κs. search rules) (λ c κs. search rules) returns)

@@ -9,16 +9,15 @@ use Rattle.record_read.proofs.read.read_stop.Statement.{statement}
 use Rattle.record_read.proofs.read.read_stop.Tie as tie
 
 -- what ends the run, by which of the two it is
-ends : (c : tie.After-shared-slice-known) (x : Stop) → c.before.args.stop ≡ x
-    → (let a = c.before.args in StopAt a.lim a.t.now (record_at a.lim a.held a.t.now) x)
+ends : (c : tie.After-shared_slice_known-1) (x : Stop) → c.args.stop ≡ x
+    → (let a = c.args in StopAt a.lim a.t.now (record_at a.lim a.held a.t.now) x)
 ends c x e =
-    let start = c.before in
-    let a = start.args in
-    subst (StopAt a.lim a.t.now (record_at a.lim a.held a.t.now)) e start.requires
+    let a = c.args in
+    subst (StopAt a.lim a.t.now (record_at a.lim a.held a.t.now)) e c.requires
 
-returns : tie.Need-returns
-returns c = let at-stop = c.before in sym (ends at-stop.before.before _ at-stop.stop.given.1)
+returns : tie.Need-returns-in-Told
+returns c = sym (ends c.before _ c.in-Told.is)
 
 pub read_stop_spec : {M : Type 1} → statement M
 read_stop_spec =
-    tie.close (tie.spec (λ c. search rules) (λ c. search rules) (λ c κs. ends c.before.before _ c.enum_told.given.1) returns (λ c. search rules))
+    tie.close (tie.spec (λ c. search rules) (λ c. search rules) (λ c κs. ends c.before _ c.in-Other.is) returns (λ c. search rules))

@@ -8,21 +8,19 @@ use Rattle.record_step.proofs.Laws.Judged.{body-judged}
 use Rattle.record_rule.proofs.alone.read_body_alone.Statement.{statement}
 use Rattle.record_rule.proofs.alone.read_body_alone.Tie as tie
 
-returns : tie.Need-returns
+returns : tie.Need-returns-then-t-size
 returns c =
-    let a = c.before.before.before.args in
-    c.refuse.ensures ∙ sym (body-cut a.lim a.defeasible a.t.now a.heads a.positives a.nafs c.before.if1.true)
+    let a = c.args in
+    c.refuse.ensures ∙ sym (body-cut a.lim a.defeasible a.t.now a.heads a.positives a.nafs c.if-t-size.true)
 
-judge-literals-requires : tie.Need-judge-literals-requires
-judge-literals-requires c κs = omega (arith, c.before.if1.false)
+judge-literals-requires : tie.Need-judge_literals-requires
+judge-literals-requires c κs = omega (arith, c.if-t-size.false)
 
-returns-2 : tie.Need-returns-2
+returns-2 : tie.Need-returns
 returns-2 c =
-    let at_read = c.before in
-    let at-if = at_read.before in
-    let a = at-if.before.before.args in
-    c.judge-literals.ensures
-    ∙ body-judged a.lim a.t.now a.heads a.positives a.nafs at-if.if1.false a.defeasible _ at_read.read-literals-alone.ensures
+    let a = c.args in
+    c.judge_literals.ensures
+    ∙ body-judged a.lim a.t.now a.heads a.positives a.nafs c.if-t-size.false a.defeasible _ c.read_literals_alone-run.ensures
 
 pub read_body_alone_spec : {M : Type 1} → statement M
 read_body_alone_spec =

@@ -16,41 +16,37 @@ use Rattle.record.proofs.Laws.Literals.{run-valid, run-wrong, run-nil}
 use Rattle.record_rule.proofs.alone.read_literals_alone.Statement.{statement}
 use Rattle.record_rule.proofs.alone.read_literals_alone.Tie as tie
 
-abbrev invariant-loop : tie.invariant-loop
+abbrev invariant-loop : tie.invariant-loop-left
 invariant-loop lim t count at₀ left₀ at left =
     (at + 5 * left ≤ length t) × (run_of (literals_at lim t 7 count) ≡ run_of (literals_at lim t at left))
 
-abbrev decreases-loop : tie.decreases-loop
+abbrev decreases-loop : tie.decreases-loop-left
 decreases-loop lim t count at₀ left₀ at left = left
 
-returns : tie.Need-returns invariant-loop decreases-loop
+returns : tie.Need-returns-then-not-is_literal invariant-loop decreases-loop
 returns c =
-    let at-loop-test = c.before.before.before in
-    let at-loop = at-loop-test.before in
-    let a = at-loop.before.before.args in
+    let a = c.args in
     let t = a.t.now in
-    let l = at-loop.loop in
-    let wrong = ap (λ bs. is_valid (decoded a.lim bs)) (sym (part_to_end t l.at)) ∙ sym c.before.is-literal.ensures ∙ not-true _ c.if1.true in
-    sym (l.invariant.1 ∙ run-wrong a.lim t l.at l.left at-loop-test.loop-test.true (valid-none _ wrong))
+    let l = c.loop-left in
+    let wrong = ap (λ bs. is_valid (decoded a.lim bs)) (sym (part_to_end t l.at)) ∙ sym c.is_literal.ensures ∙ c.if-not-is_literal.true in
+    sym (l.invariant.1 ∙ run-wrong a.lim t l.at l.left c.loop-left-test.true (valid-none _ wrong))
 
-loop-again : tie.Need-loop-preserved invariant-loop decreases-loop
+loop-again : tie.Need-loop-left-preserved invariant-loop decreases-loop
 loop-again c =
-    let at-loop-test = c.before.before.before in
-    let at-loop = at-loop-test.before in
-    let a = at-loop.before.before.args in
+    let a = c.args in
     let t = a.t.now in
-    let l = at-loop.loop in
-    let right = ap (λ bs. is_valid (decoded a.lim bs)) (sym (part_to_end t l.at)) ∙ sym c.before.is-literal.ensures ∙ not-false _ c.if1.false in
+    let l = c.loop-left in
+    let right = ap (λ bs. is_valid (decoded a.lim bs)) (sym (part_to_end t l.at)) ∙ sym c.is_literal.ensures ∙ c.if-not-is_literal.false in
     let some-literal = valid-some _ right in (
       search rules,
-      l.invariant.1 ∙ run-valid a.lim t l.at l.left some-literal.0 at-loop-test.loop-test.true some-literal.1,
+      l.invariant.1 ∙ run-valid a.lim t l.at l.left some-literal.0 c.loop-left-test.true some-literal.1,
     )
 
-returns-2 : tie.Need-returns-2 invariant-loop decreases-loop
+returns-2 : tie.Need-returns invariant-loop decreases-loop
 returns-2 c =
-    let a = c.before.before.before.args in
-    let l = c.before.loop in
-    sym (l.invariant.1 ∙ run-nil a.lim a.t.now l.at l.left c.loop-test.false)
+    let a = c.args in
+    let l = c.loop-left in
+    sym (l.invariant.1 ∙ run-nil a.lim a.t.now l.at l.left c.loop-left-test.false)
 
 pub read_literals_alone_spec : {M : Type 1} → statement M
 read_literals_alone_spec =

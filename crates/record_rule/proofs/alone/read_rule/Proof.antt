@@ -10,51 +10,40 @@ use Rattle.record_step.proofs.Laws.Front.{rule-ruled, end-unruled, other-unruled
 use Rattle.record_rule.proofs.alone.read_rule.Statement.{statement}
 use Rattle.record_rule.proofs.alone.read_rule.Tie as tie
 
--- the entry, from where the record's start is known
-abbrev start_of : tie.After-open-record → tie.Start
-start_of c = c.before.before.before
-
 -- the mark is a rule's
-ruled : (c : tie.After-enum-told) → (let a = (start_of c.before.before).args in is_rule (mark_at a.lim a.t.now) ≡ true)
-ruled c = rule-ruled _ _ (sym c.before.before.open-record.ensures ∙ c.enum_told.given.1)
+ruled : (c : tie.In-Rule) → (let a = c.args in is_rule (mark_at a.lim a.t.now) ≡ true)
+ruled c = rule-ruled _ _ (sym c.open_record-opening.ensures ∙ c.in-Rule.is)
 
-returns : tie.Need-returns
+returns : tie.Need-returns-then-t-lt2
 unfolding size_of step_size
 returns c =
-    let at-if = c.before.before in
-    let a = at-if.before.before.args in
-    c.measure-step.ensures ∙ ap step_size c.before.refuse.ensures ∙ sym (ap size_of (only-cut a.lim a.held a.t.now at-if.if1.true))
+    let a = c.args in
+    c.measure_step.ensures ∙ ap step_size c.refuse.ensures ∙ sym (ap size_of (only-cut a.lim a.held a.t.now c.if-t-lt2.true))
 
-read-marked-requires : tie.Need-read-marked-requires
+read-marked-requires : tie.Need-read_marked-requires
 read-marked-requires c κs = ruled c
 
-returns-2 : tie.Need-returns-2
+returns-2 : tie.Need-returns-in-Rule
 returns-2 c =
-    let at_told = c.before.before in
-    let at_open = at_told.before.before in
-    let a = (start_of at_open).args in
-    c.measure-step2.ensures ∙ ap step_size c.before.read-marked.ensures
-    ∙ sym (only_step a.lim a.held a.t.now at_open.before.if1.false (ruled at_told))
+    let a = c.args in
+    c.measure_step-in-Rule.ensures ∙ ap step_size c.read_marked.ensures
+    ∙ sym (only_step a.lim a.held a.t.now c.if-t-lt2.false (ruled c.before.before))
 
-returns-3 : tie.Need-returns-3
+returns-3 : tie.Need-returns-in-End
 unfolding size_of step_size
 returns-3 c =
-    let at_told = c.before.before in
-    let at_open = at_told.before.before in
-    let a = (start_of at_open).args in
-    c.measure-step3.ensures ∙ ap step_size c.before.refuse2.ensures
-    ∙ sym (ap size_of (only-wrong a.lim a.held a.t.now at_open.before.if1.false
-    (end-unruled _ (sym at_open.open-record.ensures ∙ at_told.enum-told2.given.1))))
+    let a = c.args in
+    c.measure_step-in-End.ensures ∙ ap step_size c.refuse-in-End.ensures
+    ∙ sym (ap size_of (only-wrong a.lim a.held a.t.now c.if-t-lt2.false
+    (end-unruled _ (sym c.open_record-opening.ensures ∙ c.in-End.is))))
 
-returns-4 : tie.Need-returns-4
+returns-4 : tie.Need-returns-in-Other
 unfolding size_of step_size
 returns-4 c =
-    let at_told = c.before.before in
-    let at_open = at_told.before.before in
-    let a = (start_of at_open).args in
-    c.measure-step4.ensures ∙ ap step_size c.before.refuse3.ensures
-    ∙ sym (ap size_of (only-wrong a.lim a.held a.t.now at_open.before.if1.false
-    (other-unruled _ (sym at_open.open-record.ensures ∙ at_told.enum-told3.given.1))))
+    let a = c.args in
+    c.measure_step-in-Other.ensures ∙ ap step_size c.refuse-in-Other.ensures
+    ∙ sym (ap size_of (only-wrong a.lim a.held a.t.now c.if-t-lt2.false
+    (other-unruled _ (sym c.open_record-opening.ensures ∙ c.in-Other.is))))
 
 pub read_rule_spec : {M : Type 1} → statement M
 read_rule_spec =

@@ -7,14 +7,13 @@ use Rattle.record_sheet.proofs.Laws.Sheet.{signed-invalid, signed-kind}
 use Rattle.record_sheet.proofs.sheet.is_option.Statement.{statement}
 use Rattle.record_sheet.proofs.sheet.is_option.Tie as tie
 
-returns : tie.Need-returns
-returns c = sym (signed-invalid _ (sym c.before.is-literal.ensures ∙ not-true _ c.if1.true))
+returns : tie.Need-returns-then-not-is_literal
+returns c = sym (signed-invalid _ (sym c.is_literal.ensures ∙ c.if-not-is_literal.true))
 
-returns-2 : tie.Need-returns-2
+returns-2 : tie.Need-returns
 returns-2 c =
-    let at_literal = c.before.before in
-    let a = at_literal.before.before.args in
-    sym (signed-kind a.lim a.t.now (sym at_literal.is-literal.ensures ∙ not-false _ c.before.if1.false))
+    let a = c.args in
+    sym (signed-kind a.lim a.t.now (sym c.is_literal.ensures ∙ c.if-not-is_literal.false))
 
 pub is_option_spec : {M : Type 1} → statement M
 is_option_spec = tie.close (tie.spec (λ c κs. search rules) returns (λ c. search rules) returns-2)

@@ -8,16 +8,13 @@ use Rattle.record_sheet.proofs.Laws.Sheet.{pair-differs, pair-atoms}
 use Rattle.record_sheet.proofs.sheet.is_pair_same.Statement.{statement}
 use Rattle.record_sheet.proofs.sheet.is_pair_same.Tie as tie
 
-returns : tie.Need-returns
+returns : tie.Need-returns-then-t
 returns c =
-    let start = c.before.before.before.before in
-    sym (pair-differs start.args.t.now (ne_eqb _ _ c.if1.true))
+    sym (pair-differs c.args.t.now (ne_eqb _ _ c.if-t.true))
 
-returns-2 : tie.Need-returns-2
+returns-2 : tie.Need-returns
 returns-2 c =
-    let at-if1 = c.before.before in
-    let start = at-if1.before.before.before.before in
-    ap₂ eqb c.before.get-number.ensures c.get-number2.ensures ∙ sym (pair-atoms start.args.t.now (eq-eqb _ _ at-if1.if1.false))
+    ap₂ eqb c.get_number.ensures c.get_number-2.ensures ∙ sym (pair-atoms c.args.t.now (eq-eqb _ _ c.if-t.false))
 
 pub is_pair_same_spec : {M : Type 1} → statement M
 is_pair_same_spec =

@@ -8,32 +8,30 @@ use Rattle.record_sheet.specs.Code.{pair_step}
 use Rattle.record_sheet.proofs.sheet.judge_pair.Statement.{statement}
 use Rattle.record_sheet.proofs.sheet.judge_pair.Tie as tie
 
-returns : tie.Need-returns
+returns : tie.Need-returns-then-not-one
 unfolding pair_step
-returns c = let a = c.before.args in sym (ap (λ (x : Bool). pair_step x a.other a.same) (not-true a.one c.if1.true))
+returns c = let a = c.args in sym (ap (λ (x : Bool). pair_step x a.other a.same) (c.if-not-one.true))
 
-returns-2 : tie.Need-returns-2
+returns-2 : tie.Need-returns-then-not-other
 unfolding pair_step
 returns-2 c =
-    let a = c.before.before.args in
-    sym (ap₂ (λ (x y : Bool). pair_step x y a.same) (not-false a.one c.before.if1.false) (not-true a.other c.if2.true))
+    let a = c.args in
+    sym (ap₂ (λ (x y : Bool). pair_step x y a.same) (c.if-not-one.false) (c.if-not-other.true))
 
-returns-3 : tie.Need-returns-3
+returns-3 : tie.Need-returns-then-same
 unfolding pair_step
 returns-3 c =
-    let at-if2 = c.before.before in
-    let a = at-if2.before.before.args in
+    let a = c.args in
     c.refuse.ensures
-    ∙ sym (ap₂ (λ (x y : Bool). pair_step x y a.same) (not-false a.one at-if2.before.if1.false) (not-false a.other at-if2.if2.false)
-    ∙ ap (pair_step true true) c.before.if3.true)
+    ∙ sym (ap₂ (λ (x y : Bool). pair_step x y a.same) (c.if-not-one.false) (c.if-not-other.false)
+    ∙ ap (pair_step true true) c.if-same.true)
 
-returns-4 : tie.Need-returns-4
+returns-4 : tie.Need-returns
 unfolding pair_step
 returns-4 c =
-    let at-if2 = c.before in
-    let a = at-if2.before.before.args in
-    sym (ap₂ (λ (x y : Bool). pair_step x y a.same) (not-false a.one at-if2.before.if1.false) (not-false a.other at-if2.if2.false)
-    ∙ ap (pair_step true true) c.if3.false)
+    let a = c.args in
+    sym (ap₂ (λ (x y : Bool). pair_step x y a.same) (c.if-not-one.false) (c.if-not-other.false)
+    ∙ ap (pair_step true true) c.if-same.false)
 
 pub judge_pair_spec : {M : Type 1} → statement M
 judge_pair_spec = tie.close (tie.spec returns returns-2 (λ c κs. search rules) returns-3 returns-4)

@@ -10,62 +10,45 @@ use Rattle.record.proofs.Laws.Header.{override-many, override-cut, override-tag,
 use Rattle.record_sheet.proofs.sheet.read_override.Statement.{statement}
 use Rattle.record_sheet.proofs.sheet.read_override.Tie as tie
 
-returns : tie.Need-returns
+returns : tie.Need-returns-then-is_full
 returns c =
-    let at-full = c.before.before in
-    let a = at-full.before.before.args in
-    c.refuse.ensures ∙ sym (override-many a.lim a.held a.t.now (leb-true _ _ (sym at-full.is-full.ensures ∙ c.before.if1.true)))
+    let a = c.args in
+    c.refuse.ensures ∙ sym (override-many a.lim a.held a.t.now (leb-true _ _ (sym c.is_full.ensures ∙ c.if-is_full.true)))
 
 -- where there is room for one more
-room : (c : tie.Else1) → (let a = c.before.before.before.args in a.held < a.lim.sheets)
-room c = leb-false _ _ (sym c.before.is-full.ensures ∙ c.if1.false)
+room : (c : tie.Else-is_full) → (let a = c.args in a.held < a.lim.sheets)
+room c = leb-false _ _ (sym c.is_full.ensures ∙ c.if-is_full.false)
 
-returns-2 : tie.Need-returns-2
+returns-2 : tie.Need-returns-then-t-lt6
 returns-2 c =
-    let at-if1 = c.before.before in
-    let a = at-if1.before.before.before.args in
-    c.refuse2.ensures ∙ sym (override-cut a.lim a.held a.t.now (room at-if1) c.before.if2.true)
+    let a = c.args in
+    c.refuse-then-t-lt6.ensures ∙ sym (override-cut a.lim a.held a.t.now (room c.before.before) c.if-t-lt6.true)
 
--- the place where both tags were taken, and the tests before it
-abbrev if2-of : tie.After-are-tags → tie.Else2
-if2-of c = c.before.before.before
-
-returns-3 : tie.Need-returns-3
+returns-3 : tie.Need-returns-then-not-are_tags
 returns-3 c =
-    let at-tags = c.before.before in
-    let at-if2 = if2-of at-tags in
-    let at-if1 = at-if2.before in
-    let a = at-if1.before.before.before.args in
-    let tags = ap₂ (λ (m n : ℕ). in_range a.lim.tags m && in_range a.lim.tags n) (sym at-tags.before.before.get_tag.ensures)
-    (sym at-tags.before.get-tag2.ensures) ∙ sym at-tags.are-tags.ensures ∙ not-true _ c.before.if3.true in
-    c.refuse3.ensures ∙ sym (override-tag a.lim a.held a.t.now (room at-if1) at-if2.if2.left tags)
+    let a = c.args in
+    let tags = ap₂ (λ (m n : ℕ). in_range a.lim.tags m && in_range a.lim.tags n) (sym c.get_tag-upper.ensures)
+    (sym c.get_tag-lower.ensures) ∙ sym c.are_tags.ensures ∙ c.if-not-are_tags.true in
+    c.refuse-then-not-are_tags.ensures ∙ sym (override-tag a.lim a.held a.t.now (room c.before.before.before.before.before.before) c.if-t-lt6.false tags)
 
-returns-4 : tie.Need-returns-4
+returns-4 : tie.Need-returns-then-upper-lower
 returns-4 c =
-    let at-if3 = c.before.before.before.before in
-    let at-tags = at-if3.before in
-    let at-if2 = if2-of at-tags in
-    let at-if1 = at-if2.before in
-    let a = at-if1.before.before.before.args in
-    let upper = at-tags.before.before.get_tag.ensures in
-    let lower = at-tags.before.get-tag2.ensures in
+    let a = c.args in
+    let upper = c.get_tag-upper.ensures in
+    let lower = c.get_tag-lower.ensures in
     let tags = ap₂ (λ (m n : ℕ). in_range a.lim.tags m && in_range a.lim.tags n) (sym upper) (sym lower)
-    ∙ sym at-tags.are-tags.ensures ∙ not-false _ at-if3.if3.false in
-    c.refuse4.ensures ∙ sym (override-same a.lim a.held a.t.now (room at-if1) at-if2.if2.left tags
-    (sym upper ∙ c.before.if4.true ∙ lower))
+    ∙ sym c.are_tags.ensures ∙ c.if-not-are_tags.false in
+    c.refuse-then-upper-lower.ensures ∙ sym (override-same a.lim a.held a.t.now (room c.before.before.before.before.before.before.before.before.before) c.if-t-lt6.false tags
+    (sym upper ∙ c.if-upper-lower.true ∙ lower))
 
-returns-5 : tie.Need-returns-5
+returns-5 : tie.Need-returns
 returns-5 c =
-    let at-if3 = c.before.before.before in
-    let at-tags = at-if3.before in
-    let at-if2 = if2-of at-tags in
-    let at-if1 = at-if2.before in
-    let a = at-if1.before.before.before.args in
-    let upper = at-tags.before.before.get_tag.ensures in
-    let lower = at-tags.before.get-tag2.ensures in
+    let a = c.args in
+    let upper = c.get_tag-upper.ensures in
+    let lower = c.get_tag-lower.ensures in
     let tags = ap₂ (λ (m n : ℕ). in_range a.lim.tags m && in_range a.lim.tags n) (sym upper) (sym lower)
-    ∙ sym at-tags.are-tags.ensures ∙ not-false _ at-if3.if3.false in
-    sym (override-right a.lim a.held a.t.now (room at-if1) at-if2.if2.left tags (λ e. c.if4.false (upper ∙ e ∙ sym lower)))
+    ∙ sym c.are_tags.ensures ∙ c.if-not-are_tags.false in
+    sym (override-right a.lim a.held a.t.now (room c.before.before.before.before.before.before.before.before) c.if-t-lt6.false tags (λ e. c.if-upper-lower.false (upper ∙ e ∙ sym lower)))
 
 pub read_override_spec : {M : Type 1} → statement M
 read_override_spec =

@@ -10,35 +10,33 @@ use Rattle.restrict.proofs.Laws.Front.{front-start, front-next, front-mark, fron
 use Rattle.restrict.proofs.restrict.count_front.Statement.{statement}
 use Rattle.restrict.proofs.restrict.count_front.Tie as tie
 
-abbrev invariant-loop : tie.invariant-loop
+abbrev invariant-loop : tie.invariant-loop-held
 invariant-loop k count at₀ held₀ at held = (held ≤ count) × (at ≡ 4 + 5 * held) × (source_front k 4 count ≡ held + source_front k at (count - held))
 
-abbrev decreases-loop : tie.decreases-loop
+abbrev decreases-loop : tie.decreases-loop-held
 decreases-loop k count at₀ held₀ at held = count - held
 
-loop-holds : tie.Need-loop-init invariant-loop decreases-loop
+loop-holds : tie.Need-loop-held-init invariant-loop decreases-loop
 loop-holds c = (search rules, search rules, front-start c.args.k.now 4 c.args.count)
 
-returns : tie.Need-returns invariant-loop decreases-loop
+returns : tie.Need-returns-then-k-at-gt3 invariant-loop decreases-loop
 returns c =
-    let at-loop = c.before.before.before in
-    let a = at-loop.before.args in
-    let l = at-loop.loop in
-    sym (l.invariant.2 ∙ front-mark a.k.now l.at l.held a.count c.if1.true)
+    let a = c.args in
+    let l = c.loop-held in
+    sym (l.invariant.2 ∙ front-mark a.k.now l.at l.held a.count c.if-k-at-gt3.true)
 
-loop-again : tie.Need-loop-preserved invariant-loop decreases-loop
+loop-again : tie.Need-loop-held-preserved invariant-loop decreases-loop
 loop-again c =
-    let at-loop = c.before.before.before in
-    let a = at-loop.before.args in
-    let l = at-loop.loop in
-    let more = c.before.before.loop-test.true in
-    (omega (arith, more), omega (arith, l.invariant.1), l.invariant.2 ∙ front-next a.k.now l.at l.held a.count more (omega (arith, c.if1.false)))
+    let a = c.args in
+    let l = c.loop-held in
+    let more = c.loop-held-test.true in
+    (omega (arith, more), omega (arith, l.invariant.1), l.invariant.2 ∙ front-next a.k.now l.at l.held a.count more (omega (arith, c.if-k-at-gt3.false)))
 
-returns-2 : tie.Need-returns-2 invariant-loop decreases-loop
+returns-2 : tie.Need-returns invariant-loop decreases-loop
 returns-2 c =
-    let a = c.before.before.args in
-    let l = c.before.loop in
-    sym (l.invariant.2 ∙ front-end a.k.now l.at l.held a.count (omega (arith, c.loop-test.false)))
+    let a = c.args in
+    let l = c.loop-held in
+    sym (l.invariant.2 ∙ front-end a.k.now l.at l.held a.count (omega (arith, c.loop-held-test.false)))
 
 pub count_front_spec : {M : Type 1} → statement M
 count_front_spec =

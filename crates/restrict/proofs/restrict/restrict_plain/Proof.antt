@@ -8,10 +8,8 @@ use Rattle.restrict.proofs.restrict.restrict_plain.Tie as tie
 
 returns : tie.Need-returns
 returns c =
-    let at-restrict = c.before.before in
-    let at-limits = at-restrict.before.before in
-    let a = at-limits.before.before.before.args in
-    restricted-same at-limits.limits.result plain a.k.now a.out.now at-limits.limits.ensures at-restrict.restrict.ensures
+    let a = c.args in
+    restricted-same c.limits.result plain a.k.now a.out.now c.limits.ensures c.restrict.ensures
 
 pub restrict_plain_spec : {M : Type 1} → statement M
 restrict_plain_spec = tie.close (tie.spec (λ c κs. search rules) (λ c κs. search rules) (λ c. search rules) returns)
