@@ -12,23 +12,19 @@ use Rattle.check_witness.proofs.Laws.Witness.{picked-one, picked_none}
 use Rattle.check_witness.proofs.witness.copy_picked.Statement.{statement}
 use Rattle.check_witness.proofs.witness.copy_picked.Tie as tie
 
-returns : tie.Need-returns
+returns : tie.Need-returns-then-not-is_in
 returns c =
-    let at-mask = c.before in
-    let a = at-mask.before.before.before.args in
-    let e = picked_none a.model a.i (take 5 (drop a.at a.set.now)) (sym at-mask.is-in.ensures ∙ not-true _ c.if1.true) in
+    let a = c.args in
+    let e = picked_none a.model a.i (take 5 (drop a.at a.set.now)) (sym c.is_in.ensures ∙ c.if-not-is_in.true) in
     (ap length (sym e), sym (ap (write a.out.now a.to) e ∙ write-nil a.out.now a.to))
 
-returns-2 : tie.Need-returns-2
+returns-2 : tie.Need-returns
 returns-2 c =
-    let at_copy = c.before.before in
-    let at_test = at_copy.before.before in
-    let at-is-in = at_test.before in
-    let a = at-is-in.before.before.before.args in
+    let a = c.args in
     let bs = take 5 (drop a.at a.set.now) in
-    let e = picked-one a.model a.i bs (sym at-is-in.is-in.ensures ∙ not-false _ at_test.if1.false) in (
+    let e = picked-one a.model a.i bs (sym c.is_in.ensures ∙ c.if-not-is_in.false) in (
       sym (ap length e ∙ length-take-le 5 (drop a.at a.set.now) (omega (arith, length-drop a.at a.set.now))),
-      ◌∙◌ {b = write a.out.now a.to bs} at_copy.copy.ensures (ap (write a.out.now a.to) (sym e)),
+      ◌∙◌ {b = write a.out.now a.to bs} c.copy.ensures (ap (write a.out.now a.to) (sym e)),
     )
 
 pub copy_picked_spec : {M : Type 1} → statement M

@@ -37,8 +37,8 @@ collect-requires c κs =
 
 abbrev held : tie.After-collect-held → State
 held c =
-    let l = c.collect-held.new.1 in
-    state l.0 l.1.0 l.1.1.0 l.1.1.1.0 l.1.1.1.1.0 l.1.1.1.1.1.0 c.collect-held.result
+    let l = c.collect-held.new in
+    state l.out l.up l.low l.lowers l.ones l.others c.collect-held.result
 
 collected : (c : tie.After-collect-held) (w : Asked c.before.before.before.before.before.before.before.before.before.before.before.before.before.before) → Collected c.args.out.now w.items (held c)
 unfolding asked-collecting

@@ -101,7 +101,7 @@ returns-3 c =
     let body = write-behind d (a.to + 7) (encoded_literals ls) _ positives (omega (arith, room))
     (omega (arith, found.0, length-encoded-literals ls)) found.1 copied.ensures in
     let top = c.write_header.ensures
-    ∙ ap (λ n. write copied.last.1.1.1.0 a.to (header n (positive_count t) 0)) found.0 in (
+    ∙ ap (λ n. write copied.new.out a.to (header n (positive_count t) 0)) found.0 in (
       omega (arith, long c.before.before.before.before.before.before.before.before),
       write-ahead d a.to (header (length ls) (positive_count t) 0) (a.to + 7) _ (omega (arith, room, of-header)) (omega (arith, of-header)) body top
           ∙ ap (write d a.to) (option-bytes-some t ls (some c.before.before.before.before.before.before.before.before)),

@@ -70,11 +70,11 @@ sized c = found-size _ _ (rest_of c.before) _ _ (found-now c.before ∙ c.in-Nex
 
 add_at : tie.Need-overflow_add-at invariant-loop decreases-loop
 add_at c =
-    omega (arith, (sized c).ranges, length-drop (place c.before) (source c.before.before.before.before.before.before), lies c.before.before.before.before, c.good.1)
+    omega (arith, (sized c).fits, length-drop (place c.before) (source c.before.before.before.before.before.before), lies c.before.before.before.before)
 
 loop-less : tie.Need-loop-size-smaller invariant-loop decreases-loop
 loop-less c =
-    omega (arith, (sized c).large, (sized c).ranges, length-drop (place c.before) (source c.before.before.before.before.before.before), lies c.before.before.before.before)
+    omega (arith, (sized c).large, (sized c).fits, length-drop (place c.before) (source c.before.before.before.before.before.before), lies c.before.before.before.before)
 
 loop-again : tie.Need-loop-size-preserved invariant-loop decreases-loop
 loop-again c =
@@ -82,7 +82,7 @@ loop-again c =
     let e = found-now c.before ∙ c.in-Next.is in
     let more = found-total lim c.with_rules-passed.result (rest_of c.before) _ _ e in
     let w = passed c.before.before.before.before in (
-      omega (arith, (sized c).ranges, length-drop (place c.before) (source c.before.before.before.before.before.before), lies c.before.before.before.before),
+      omega (arith, (sized c).fits, length-drop (place c.before) (source c.before.before.before.before.before.before), lies c.before.before.before.before),
       omega (arith, (sized c).large, more, w.few),
       c.loop-size.invariant.2 ∙ w.same
           ∙ left-next lim (source c.before.before.before.before.before.before) (place c.before) c.with_rules-passed.result (omega (arith, w.few, lies c.before.before.before.before)) _ _ e,

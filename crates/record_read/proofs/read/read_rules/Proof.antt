@@ -43,19 +43,19 @@ returns-2 c =
     going-stopped c.args.held c.loop-step.invariant c.requires.1 (part c.before.before.before) (part_to_end (source c.before.before.before) c.loop-step.at) _
     (λ h e. front-other c.args.lim (part c.before.before.before) _ _ c.in-Other.is (c.read_front-front.ensures h e))
 
-literals : (c : tie.In-Literals-2 invariant-loop decreases-loop) (h : Held) → h.rules ≡ c.loop-step.rules
-    → LiteralsLeft c.args.lim (part c.before.before.before.before)
-    (record_at c.args.lim h (part c.before.before.before.before)) c.front-in-Literals-1.given.0.0
+literals : (c : tie.In-Literals invariant-loop decreases-loop) (h : Held) → h.rules ≡ c.loop-step.rules
+    → LiteralsLeft c.args.lim (part c.before.before.before)
+    (record_at c.args.lim h (part c.before.before.before)) c.in-Literals.defeasible
 literals c h e =
-    front-literals c.args.lim (part c.before.before.before.before) _ _ _ c.front-in-Literals-1.given.1 (c.read_front-front.ensures h e)
+    front-literals c.args.lim (part c.before.before.before) _ _ _ c.in-Literals.is (c.read_front-front.ensures h e)
 
-whole : (c : tie.In-Literals-2 invariant-loop decreases-loop) → 7 ≤ length (part c.before.before.before.before)
+whole : (c : tie.In-Literals invariant-loop decreases-loop) → 7 ≤ length (part c.before.before.before)
 whole c = (literals c (record { rules = c.loop-step.rules; overrides = 0; oppositions = 0 }) refl).whole
 
 body : (c : tie.After-read_body-step invariant-loop decreases-loop) (h : Held) → h.rules ≡ c.loop-step.rules
     → step_of (record_at c.args.lim h (part c.before.before.before.before.before.before.before)) ≡ c.read_body-step.result
 body c h e =
-    sym (literals-step c.args.lim (part c.before.before.before.before.before.before.before) _ _ (literals c h e) _ c.read_body-step.ensures)
+    sym (literals-step c.args.lim (part c.before.before.before.before.before.before.before) _ _ (literals c.before.before.before.before h e) _ c.read_body-step.ensures)
 
 step : (c : tie.In-Rule invariant-loop decreases-loop) (h : Held) → h.rules ≡ c.loop-step.rules
     → step_of (record_at c.args.lim h (part c.before.before.before.before.before.before.before.before))
@@ -68,12 +68,12 @@ sized c =
     rule-sized c.loop-step.invariant (part c.before.before.before.before.before.before.before.before) (part_to_end (source c.before.before.before.before.before.before.before.before) c.loop-step.at) _ (step c)
 
 add_at : tie.Need-overflow_add-at invariant-loop decreases-loop
-add_at c = omega (arith, sized c, c.good.1)
+add_at c = omega (arith, sized c)
 
 -- each rule that is held took six bytes or more
 add-rules : tie.Need-overflow_add-rules invariant-loop decreases-loop
 add-rules c =
-    omega (arith, (c.loop-step.invariant.gone c.args.held refl c.requires.1).few, c.loop-step.invariant.within, c.good.1)
+    omega (arith, (c.loop-step.invariant.gone c.args.held refl c.requires.1).few, c.loop-step.invariant.within)
 
 loop-again : tie.Need-loop-step-preserved invariant-loop decreases-loop
 loop-again c =
@@ -87,6 +87,6 @@ pub read_rules_spec : {M : Type 1} → statement M
 read_rules_spec =
     tie.close (tie.spec invariant-loop decreases-loop loop-holds (λ c. omega (arith, c.loop-step.invariant.within)) (λ c. omega (arith, c.loop-step.invariant.within))
     (λ c. omega (arith, c.loop-step.invariant.within)) (λ c κs. search rules) (λ c. search rules) returns (λ c. search rules) returns-2 (λ c. search rules)
-    (λ c. omega (arith, whole c)) (λ c. omega (arith, whole c))
-    (λ c. omega (arith, whole c))
+    (λ c. omega (arith, whole c.before)) (λ c. omega (arith, whole c.before.before))
+    (λ c. omega (arith, whole c.before.before.before))
     (λ c κs. search rules) (λ c. search rules) add_at add-rules (λ c. omega (arith, sized c)) loop-again returns-3)
