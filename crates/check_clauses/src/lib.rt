@@ -10,21 +10,21 @@ mod options;
 mod rule;
 
 // What building found: the number of the first broken rule, 0 where none is; else how many clauses were written.
-#[derive(Drop)]
+#[derive(Clone, Copy)]
 pub struct Built {
     pub broken: RuleNo,
     pub count: usize,
 }
 
 // Whether each of some literals is in the set, and their positions where each is.
-#[derive(Drop)]
+#[derive(Clone, Copy)]
 pub struct Positions {
     pub whole: bool,
     pub mask: u64,
 }
 
 // How many options are left, and their positions.
-#[derive(Drop)]
+#[derive(Clone, Copy)]
 pub struct Left {
     pub count: usize,
     pub mask: u64,
@@ -32,7 +32,7 @@ pub struct Left {
 
 // What is left of a rule, where each positive literal of it is in the set: `count` is 1. Where it is 0, every part of the
 // set meets the rule, and there is no clause.
-#[derive(Drop)]
+#[derive(Clone, Copy)]
 pub struct Clause {
     pub count: usize,
     pub body: u64,

@@ -8,8 +8,8 @@ use Rattle.check_clauses.proofs.masks.mask_literal.Tie as tie
 
 returns : tie.Need-returns
 returns c =
-    let a = c.before.before.before.args in
-    c.mask-of.ensures ∙ ap (key_mask a.set.now a.n) c.before.key_of.ensures
+    let a = c.args in
+    c.mask_of.ensures ∙ ap (key_mask a.set.now a.n) c.key_of.ensures
 
 pub mask_literal_spec : {M : Type 1} → statement M
 mask_literal_spec = tie.close (tie.spec (λ c κs. search rules) (λ c κs. search rules) returns)

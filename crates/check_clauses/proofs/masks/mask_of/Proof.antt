@@ -6,18 +6,16 @@ use Rattle.check_clauses.proofs.Laws.Position.{key-mask-place, key-mask-none}
 use Rattle.check_clauses.proofs.masks.mask_of.Statement.{statement}
 use Rattle.check_clauses.proofs.masks.mask_of.Tie as tie
 
-returns : tie.Need-returns
+returns : tie.Need-returns-then-place-n
 returns c =
-    let at-place-of = c.before.before in
-    let start = at-place-of.before.before in
-    let a = start.args in
-    let p = at-place-of.place-of in
-    c.single-at.ensures ∙ sym (key-mask-place a.set.now a.wanted a.n start.requires.1.0 p.result p.ensures c.before.if1.true)
+    let a = c.args in
+    let p = c.place_of-place in
+    c.single_at.ensures ∙ sym (key-mask-place a.set.now a.wanted a.n c.requires.1.0 p.result p.ensures c.if-place-n.true)
 
-returns-2 : tie.Need-returns-2
+returns-2 : tie.Need-returns
 returns-2 c =
-    let a = c.before.before.before.args in
-    sym (key-mask-none a.set.now a.wanted a.n (c.before.place-of.ensures.none c.if1.false))
+    let a = c.args in
+    sym (key-mask-none a.set.now a.wanted a.n (c.place_of-place.ensures.none c.if-place-n.false))
 
 pub mask_of_spec : {M : Type 1} → statement M
 mask_of_spec =

@@ -8,10 +8,9 @@ use Rattle.check_clauses.proofs.options.is_defeated.Tie as tie
 
 returns : tie.Need-returns
 returns c =
-    let at-tag-at = c.before.before.before in
-    let a = at-tag-at.before.before.before.args in
-    rw (← at-tag-at.tag_at.ensures, ← c.before.before.option-at.ensures)
-    (c.holds.ensures ∙ ap (has_key a.set.now a.n) c.before.key_of.ensures)
+    let a = c.args in
+    rw (← c.tag_at-tag.ensures, ← c.option_at-option.ensures)
+    (c.holds.ensures ∙ ap (has_key a.set.now a.n) c.key_of.ensures)
 
 pub is_defeated_spec : {M : Type 1} → statement M
 is_defeated_spec = tie.close (tie.spec (λ c κs. search rules) (λ c κs. search rules) (λ c κs. search rules) (λ c κs. search rules) returns)

@@ -9,19 +9,17 @@ use Rattle.check_clauses.proofs.Laws.Left.{mask-defeated, mask-kept}
 use Rattle.check_clauses.proofs.options.mask_option.Statement.{statement}
 use Rattle.check_clauses.proofs.options.mask_option.Tie as tie
 
-returns : tie.Need-returns
+returns : tie.Need-returns-then-is_defeated
 returns c =
-    let at-is-defeated = c.before in
-    let a = at-is-defeated.before.before.before.args in
-    sym (mask-defeated a.t.now a.set.now a.n a.at (sym at-is-defeated.is-defeated.ensures ∙ c.if1.true))
+    let a = c.args in
+    sym (mask-defeated a.t.now a.set.now a.n a.at (sym c.is_defeated.ensures ∙ c.if-is_defeated.true))
 
-returns-2 : tie.Need-returns-2
+returns-2 : tie.Need-returns
 returns-2 c =
-    let at-is-defeated = c.before.before.before in
-    let a = at-is-defeated.before.before.before.args in
-    let mask = c.mask-literal.ensures ∙ ap (λ (o : SignedAtom). literal_mask a.set.now a.n (Signed o)) c.before.option-at.ensures in
+    let a = c.args in
+    let mask = c.mask_literal-mask.ensures ∙ ap (λ (o : SignedAtom). literal_mask a.set.now a.n (Signed o)) c.option_at-option.ensures in
     ap (λ k. record { count = 1; mask = k }) mask
-    ∙ sym (mask-kept a.t.now a.set.now a.n a.at (sym at-is-defeated.is-defeated.ensures ∙ c.before.before.if1.false))
+    ∙ sym (mask-kept a.t.now a.set.now a.n a.at (sym c.is_defeated.ensures ∙ c.if-is_defeated.false))
 
 pub mask_option_spec : {M : Type 1} → statement M
 mask_option_spec = tie.close (tie.spec (λ c κs. search rules) returns (λ c κs. search rules) (λ c κs. search rules) returns-2)

@@ -16,39 +16,36 @@ use Rattle.check_clauses.proofs.Laws.Left.{count-first, mask_first, count-one, l
 use Rattle.check_clauses.proofs.options.mask_options.Statement.{statement}
 use Rattle.check_clauses.proofs.options.mask_options.Tie as tie
 
-abbrev invariant-loop : tie.invariant-loop
+abbrev invariant-loop : tie.invariant-loop-left
 invariant-loop t heads set n at₀ left₀ count₀ mask₀ at left count mask =
     (at + 5 * left ≤ length t) × (count + left ≤ heads) × (count + length (left_at t set n at left) ≡ length (left_at t set n 7 heads))
     × (union (literal_mask set n) (left_at t set n 7 heads) ≡ bit_or mask (union (literal_mask set n) (left_at t set n at left)))
 
-abbrev decreases-loop : tie.decreases-loop
+abbrev decreases-loop : tie.decreases-loop-left
 decreases-loop t heads set n at₀ left₀ count₀ mask₀ at left count mask = left
 
-loop-holds : tie.Need-loop-init invariant-loop decreases-loop
+loop-holds : tie.Need-loop-left-init invariant-loop decreases-loop
 loop-holds c = (search rules, search rules, search rules, union-start _ _)
 
-add-count : tie.Need-overflow-add-count invariant-loop decreases-loop
+add-count : tie.Need-overflow_add-count invariant-loop decreases-loop
 add-count c =
-    let at-loop = c.before.before.before in
-    let a = at-loop.before.before.before.args in
-    let l = at-loop.loop in
+    let a = c.args in
+    let l = c.loop-left in
     omega (
       arith,
-      count-one a.t.now a.set.now a.n l.at c.before.mask-option.result
-          c.before.mask-option.ensures,
+      count-one a.t.now a.set.now a.n l.at c.mask_option-one.result
+          c.mask_option-one.ensures,
       l.invariant.0,
       l.invariant.1,
-      c.before.before.loop-test.true,
+      c.loop-left-test.true,
     )
 
-loop-again : tie.Need-loop-preserved invariant-loop decreases-loop
+loop-again : tie.Need-loop-left-preserved invariant-loop decreases-loop
 loop-again c =
-    let at-loop-test = c.before.before.before in
-    let at-loop = at-loop-test.before in
-    let a = at-loop.before.before.before.args in
-    let l = at-loop.loop in
-    let one = c.before.before.mask-option in
-    let more = at-loop-test.loop-test.true in (
+    let a = c.args in
+    let l = c.loop-left in
+    let one = c.mask_option-one in
+    let more = c.loop-left-test.true in (
       search rules,
       omega (arith, l.invariant.1, more, count-one a.t.now a.set.now a.n l.at one.result one.ensures),
       omega (arith, l.invariant.2, count-first a.t.now a.set.now a.n l.at l.left one.result more one.ensures),
@@ -57,10 +54,9 @@ loop-again c =
 
 returns : tie.Need-returns invariant-loop decreases-loop
 returns c =
-    let at-loop = c.before in
-    let a = at-loop.before.before.before.args in
-    let l = at-loop.loop in
-    let none = left-none a.t.now a.set.now a.n l.at l.left c.loop-test.false in
+    let a = c.args in
+    let l = c.loop-left in
+    let none = left-none a.t.now a.set.now a.n l.at l.left c.loop-left-test.false in
     left-gathered a.set.now a.n _ l.count l.mask (omega (arith, l.invariant.2, ap length none))
     (sym (l.invariant.3 ∙ ap (λ ls. bit_or l.mask (union (literal_mask a.set.now a.n) ls)) none ∙ union-end (literal_mask a.set.now a.n) l.mask))
 

@@ -4,10 +4,9 @@ use borrow.Author.Rules.{rules}
 use Rattle.check_clauses.proofs.rule.is_removed.Statement.{statement}
 use Rattle.check_clauses.proofs.rule.is_removed.Tie as tie
 
-is-any-member-requires : tie.Need-is-any-member-requires
+is-any-member-requires : tie.Need-is_any_member-requires
 is-any-member-requires c κs =
-    let at-shared-slice-known2 = c.before.before.before in
-    (search rules, (at-shared-slice-known2.before.before.requires.1.1, search rules))
+    (search rules, (c.requires.1.1, search rules))
 
 pub is_removed_spec : {M : Type 1} → statement M
 is_removed_spec =

@@ -86,9 +86,9 @@ returns c w =
 pub write_behind_spec : {M : Type 1} → statement M
 write_behind_spec =
     tie.close (tie.spec
-    (λ c. omega (arith, fits c.before.before.before.before.before.before.before.before, c.good.0)) (λ c. omega (arith, fits c.before.before.before.before.before.before.before.before))
+    (λ c. omega (arith, fits c.before.before.before.before.before.before.before.before)) (λ c. omega (arith, fits c.before.before.before.before.before.before.before.before))
     (λ c. sym (length-take-le _ _ (omega (arith, fits c.before.before.before.before.before.before.before.before))))
     mark-heads-requires append-rules-requires (λ c. search known) (λ c. omega (arith, total c)) (λ c. omega (arith, total c))
     (λ c κs. omega (arith, ends c.before, back_long c.before))
-    (λ c. omega (arith, ends c.before.before.before.before, c.good.0))
+    (λ c. omega (arith, ends c.before.before.before.before))
     (λ c. c.write_end.auto.out ∙ back_long c.before.before.before.before) (λ c. search known) (λ c. search known) returns)

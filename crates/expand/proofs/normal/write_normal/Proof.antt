@@ -15,23 +15,23 @@ use Rattle.expand.proofs.normal.write_normal.Tie as tie
 
 abbrev held : tie.After-write_front-held → State
 held c =
-    let l = c.write_front-held.new.1 in
-    state l.0 l.1.0 l.1.1.0 l.1.1.1.0 l.1.1.1.1.0 l.1.1.1.1.1.0 c.write_front-held.result
+    let l = c.write_front-held.new in
+    state l.out l.up l.low l.lowers l.ones l.others c.write_front-held.result
 
 appendable : (c : tie.After-write_front-held) → HoldsFile (Expandable (length c.args.out.now)) c.args.s.now
     → Appendable (held c) (replicate option_places 0) (replicate option_places 0)
 appendable c w =
-    let k = c.write_front-held.auto.1.1 in
+    let k = c.write_front-held.auto in
     record {
       came = c.args.out.now;
       items = w.items;
       asked = w.asked;
       fronted = c.write_front-held.ensures w;
-      up_long = k.0;
-      low_long = k.1.0;
-      lowers_long = k.1.1.0;
-      ones_long = k.1.1.1.0;
-      others_long = k.1.1.1.1.0;
+      up_long = k.up;
+      low_long = k.low;
+      lowers_long = k.lowers;
+      ones_long = k.ones;
+      others_long = k.others;
       win_long = length-replicate {A = ℕ} option_places 0;
       lose_long = length-replicate {A = ℕ} option_places 0;
       win_empty = zeros option_places;

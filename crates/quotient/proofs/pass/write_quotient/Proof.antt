@@ -18,131 +18,100 @@ use Rattle.quotient.proofs.Laws.Pass.{Made, adds-few, adds-within, one-few, made
 use Rattle.quotient.proofs.pass.write_quotient.Statement.{statement}
 use Rattle.quotient.proofs.pass.write_quotient.Tie as tie
 
-abbrev invariant-loop : tie.invariant-loop
+abbrev invariant-loop : tie.invariant-loop-at
 invariant-loop s set count out₀ at₀ made₀ to₀ out at made to =
     (length out ≡ length out₀) × Pass (Fitting (key_set set count) (length out₀)) s at (Made (key_set set count) out₀ out made to)
 
-abbrev decreases-loop : tie.decreases-loop
+abbrev decreases-loop : tie.decreases-loop-at
 decreases-loop s set count out₀ at₀ made₀ to₀ out at made to = length s - at
 
--- the entry; the program's bytes and the program, the part that is left, the buffer that came, and the set
-abbrev start_of : tie.At-loop invariant-loop decreases-loop → tie.Start invariant-loop decreases-loop
-start_of c =
-    let at-shared-slice-known = c.before.before.before in
-    at-shared-slice-known.before
+abbrev source : tie.At-loop-at invariant-loop decreases-loop → List ℕ
+source c = c.args.s.now
 
-abbrev source : tie.At-loop invariant-loop decreases-loop → List ℕ
-source c = (start_of c).args.s.now
+abbrev part : tie.At-loop-at invariant-loop decreases-loop → List ℕ
+part c = take (length (source c) - c.loop-at.at) (drop c.loop-at.at (source c))
 
-abbrev part : tie.At-loop invariant-loop decreases-loop → List ℕ
-part c = take (length (source c) - c.loop.at) (drop c.loop.at (source c))
+abbrev came : tie.At-loop-at invariant-loop decreases-loop → List ℕ
+came c = c.args.out.now
 
-abbrev came : tie.At-loop invariant-loop decreases-loop → List ℕ
-came c = (start_of c).args.out.now
+abbrev members : tie.At-loop-at invariant-loop decreases-loop → LiteralSet
+members c = key_set c.args.set.now c.args.count
 
-abbrev members : tie.At-loop invariant-loop decreases-loop → LiteralSet
-members c = key_set (start_of c).args.set.now (start_of c).args.count
-
-abbrev held : (c : tie.At-loop invariant-loop decreases-loop) → Holds (Fitting (members c) (length (came c))) (source c)
-held c = (start_of c).requires.0
+abbrev held : (c : tie.At-loop-at invariant-loop decreases-loop) → Holds (Fitting (members c) (length (came c))) (source c)
+held c = c.requires.0
 
 -- where the loop is
-here : (c : tie.At-loop invariant-loop decreases-loop)
-    → Along (source c) (held c).program c.loop.at (Made (members c) (came c) c.loop.out c.loop.made c.loop.to)
-here c = c.loop.invariant.1 (held c)
+here : (c : tie.At-loop-at invariant-loop decreases-loop)
+    → Along (source c) (held c).program c.loop-at.at (Made (members c) (came c) c.loop-at.out c.loop-at.made c.loop-at.to)
+here c = c.loop-at.invariant.1 (held c)
 
-opens : (c : tie.At-loop invariant-loop decreases-loop) → c.loop.at + 4 ≤ length (source c)
+opens : (c : tie.At-loop-at invariant-loop decreases-loop) → c.loop-at.at + 4 ≤ length (source c)
 opens c = walk-open (here c).walk
 
--- the next rule's record, where there is no E
-abbrev loop-of : tie.After-part invariant-loop decreases-loop → tie.At-loop invariant-loop decreases-loop
-loop-of c = c.before.before.before
+next : (c : tie.After-part-1 invariant-loop decreases-loop)
+    → More (source c.before.before.before) (held c.before.before.before).program (here c.before.before.before).gone c.loop-at.at (part c.before.before.before)
+next c = walk_more (here c.before.before.before).walk c.loop-at-test.true (part c.before.before.before) (part_to_end (source c.before.before.before) c.loop-at.at)
 
-next : (c : tie.After-part invariant-loop decreases-loop)
-    → More (source (loop-of c)) (held (loop-of c)).program (here (loop-of c)).gone (loop-of c).loop.at (part (loop-of c))
-next c = walk_more (here (loop-of c)).walk c.before.if1.true (part (loop-of c)) (part_to_end (source (loop-of c)) (loop-of c).loop.at)
-
-write-remainder-requires : tie.Need-write-remainder-requires invariant-loop decreases-loop
+write-remainder-requires : tie.Need-write_remainder-size-requires invariant-loop decreases-loop
 write-remainder-requires c κs =
-    let at-loop = loop-of c.before in
-    let start = start_of at-loop in
     let m = next c.before in
-    let room = adds-within m start.args.set.now start.args.count in
-    (m.whole, (start.pre.1.0, (start.pre.1.1, omega (arith, room, (here at-loop).made.long, (held at-loop).asked.fits, at-loop.loop.inv.0))))
+    let room = adds-within m c.args.set.now c.args.count in
+    (m.whole, (c.requires.1.0, (c.requires.1.1, omega (arith, room, (here c.before.before.before.before).made.long, (held c.before.before.before.before).asked.fits, c.loop-at.invariant.0))))
 
--- where what is left of the rule was written
-abbrev part_of : tie.After-write-remainder invariant-loop decreases-loop → tie.After-part invariant-loop decreases-loop
-part_of c = c.before.before
-
-abbrev write-of : tie.After-count-record invariant-loop decreases-loop → tie.After-write-remainder invariant-loop decreases-loop
-write-of c = c.before.before.before
-
-add-to : tie.Need-overflow-add-to invariant-loop decreases-loop
+add-to : tie.Need-overflow_add-to invariant-loop decreases-loop
 add-to c =
-    let at_part = part_of c.before.before in
-    let a = (start_of (loop-of at_part)).args in
-    let m = next at_part in
-    omega (arith, adds-few m a.set.now a.count, m.fits, (here (loop-of at_part)).made.long, c.before.before.write-remainder.ensures.0)
+    let a = c.args in
+    let m = next c.before.before.before.before in
+    omega (arith, adds-few m a.set.now a.count, m.fits, (here c.before.before.before.before.before.before.before).made.long, c.write_remainder-size.ensures.0)
 
-add-made : tie.Need-overflow-add-made invariant-loop decreases-loop
+add-made : tie.Need-overflow_add-made invariant-loop decreases-loop
 add-made c =
-    let at_part = part_of (write-of c) in
-    let at-loop = loop-of at_part in
-    let walk = (here at-loop).walk in
-    let few = rules-left (members at-loop) (here at-loop).gone in
-    let one = one-few (write-of c).write-remainder.result c.count-record.result c.count-record.ensures in
-    omega (arith, few, walk-few walk at_part.before.if1.taken, (held at-loop).asked.few, (here at-loop).made.counted, one)
+    let walk = (here c.before.before.before.before.before.before.before.before).walk in
+    let few = rules-left (members c.before.before.before.before.before.before.before.before) (here c.before.before.before.before.before.before.before.before).gone in
+    let one = one-few c.write_remainder-size.result c.count_record-made.result c.count_record-made.ensures in
+    omega (arith, few, walk-few walk c.loop-at-test.true, (held c.before.before.before.before.before.before.before.before).asked.few, (here c.before.before.before.before.before.before.before.before).made.counted, one)
 
-loop-again : tie.Need-loop-preserved invariant-loop decreases-loop
+loop-again : tie.Need-loop-at-preserved invariant-loop decreases-loop
 loop-again c =
-    let at-write = write-of c.before in
-    let at_part = part_of at-write in
-    let at-loop = loop-of at_part in
-    let l = at-loop.loop in
-    let a = (start_of at-loop).args in
-    let written = at-write.write-remainder in (
-      written.kept.1.1.1.0 ∙ l.inv.0,
-      pass-next l.inv.1 at_part.before.if1.taken (part at-loop) (part_to_end (source at-loop) l.at) _ c.record-size.ensures
-          (Made (members at-loop) (came at-loop) _ (l.made + c.before.count-record.result) (l.to + written.result))
-          (λ w along m. made-next a.set.now a.count m along.made written.ensures.1 _ _ written.ensures.0 c.before.count-record.ensures),
+    let l = c.loop-at in
+    let a = c.args in
+    let written = c.write_remainder-size in (
+      written.auto.out ∙ l.invariant.0,
+      pass-next l.invariant.1 c.loop-at-test.true (part c.before.before.before.before.before.before.before.before.before) (part_to_end (source c.before.before.before.before.before.before.before.before.before) l.at) _ c.record_size-at.ensures
+          (Made (members c.before.before.before.before.before.before.before.before.before) (came c.before.before.before.before.before.before.before.before.before) _ (l.made + c.count_record-made.result) (l.to + written.result))
+          (λ w along m. made-next a.set.now a.count m along.made written.ensures.1 _ _ written.ensures.0 c.count_record-made.ensures),
     )
 
-cast-write-end : tie.Need-overflow-cast-write-end invariant-loop decreases-loop
+cast-write-end : tie.Need-overflow_cast-made invariant-loop decreases-loop
 cast-write-end c =
-    let at-loop = c.before.before in
-    let made = along-end (here at-loop) c.if1.false in
-    omega (arith, made.counted, rules-left (members at-loop) (held at-loop).program, (held at-loop).asked.few)
+    let made = along-end (here c.before.before) c.loop-at-test.false in
+    omega (arith, made.counted, rules-left (members c.before.before) (held c.before.before).program, (held c.before.before).asked.few)
 
 -- at the end record there is room for it
-ended : (c : tie.After-write-end-arg invariant-loop decreases-loop) → c.before.before.before.loop.to + 4 ≤ length c.before.before.before.loop.out
+ended : (c : tie.After-write_end-arg-1 invariant-loop decreases-loop) → c.loop-at.to + 4 ≤ length c.loop-at.out
 ended c =
-    let at-loop = c.before.before.before in
-    let w = held at-loop in
-    let made = along-end (here at-loop) c.before.if1.false in
-    omega (arith, made.long, length-quotient (members at-loop) w.program, w.asked.fits, at-loop.loop.invariant.0)
+    let w = held c.before.before.before in
+    let made = along-end (here c.before.before.before) c.loop-at-test.false in
+    omega (arith, made.long, length-quotient (members c.before.before.before) w.program, w.asked.fits, c.loop-at.invariant.0)
 
-same_length : tie.Need-same-length invariant-loop decreases-loop
+same_length : tie.Need-shape_of-out invariant-loop decreases-loop
 same_length c =
-    let at-end = c.before.before in
-    let at-if1 = at-end.before.before in
-    at-end.write-end.auto.1.0 ∙ at-if1.before.before.loop.invariant.0
+    c.write_end.auto.out ∙ c.loop-at.invariant.0
 
 returns : tie.Need-returns invariant-loop decreases-loop
 returns c =
-    let at-end = c.before.before in
-    let at-if = at-end.before.before in
-    let at-loop = at-if.before.before in (
-      λ w. let made = along-end (at-loop.loop.invariant.1 w) at-if.if1.false in omega (arith, made.long, length-quotient (members at-loop) w.program),
-      λ w. made-end (along-end (at-loop.loop.invariant.1 w) at-if.if1.false) at-end.write-end.ensures,
+    (
+      λ w. let made = along-end (c.loop-at.invariant.1 w) c.loop-at-test.false in omega (arith, made.long, length-quotient (members c.before.before.before.before.before.before) w.program),
+      λ w. made-end (along-end (c.loop-at.invariant.1 w) c.loop-at-test.false) c.write_end.ensures,
     )
 
 pub write_quotient_spec : {M : Type 1} → statement M
 write_quotient_spec =
     tie.close (tie.spec invariant-loop decreases-loop
-    (λ c. let a = c.before.before.before.args in (refl, pass-start a.s.now _ (made-start (key_set a.set.now a.count) a.out.now)))
+    (λ c. let a = c.args in (refl, pass-start a.s.now _ (made-start (key_set a.set.now a.count) a.out.now)))
     (λ c. omega (arith, opens c.before)) (λ c. omega (arith, opens c.before.before)) (λ c. omega (arith, opens c.before.before))
     (λ c. search rules) write-remainder-requires add-to (λ c κs. search rules) add-made
-    (λ c κs. omega (arith, (next (part_of (write-of c))).whole))
-    (λ c. omega (arith, (next (part_of (write-of c.before))).fits, c.record-size.ensures))
-    (λ c. omega (arith, (next (part_of (write-of c.before))).fits, c.record-size.ensures)) loop-again cast-write-end
+    (λ c κs. omega (arith, (next c.before.before.before.before.before).whole))
+    (λ c. omega (arith, (next c.before.before.before.before.before.before).fits, c.record_size-at.ensures))
+    (λ c. omega (arith, (next c.before.before.before.before.before.before).fits, c.record_size-at.ensures)) loop-again cast-write-end
     (λ c κs. omega (arith, ended c)) (λ c. omega (arith, ended c.before.before.before)) same_length returns)

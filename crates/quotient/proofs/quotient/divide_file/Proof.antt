@@ -12,76 +12,48 @@ use Rattle.quotient.proofs.Laws.Quotient.{refused-met, read-dividing, read-met, 
 use Rattle.quotient.proofs.quotient.divide_file.Statement.{statement}
 use Rattle.quotient.proofs.quotient.divide_file.Tie as tie
 
--- the entry, and where program and set were read
-abbrev start_of : tie.After-read-inputs → tie.Start
-start_of c = c.before.before.before.before
-
-abbrev read_of : tie.After-known-told2 → tie.After-read-inputs
-read_of c =
-    let at-match = c.before.before in
-    at-match.before
-
 -- the program's slice holds bytes; both were read, and the slice has the program's records
-bytes : (c : tie.After-read-inputs) → Bytes (start_of c).args.s.now
-bytes c i = (c.before.before.before.shared-slice-known.given i).fits
+bytes : (c : tie.After-read_inputs-both) → Bytes c.args.s.now
+bytes c i = (c.shared_slice_known-1.given i).fits
 
-given : (c : tie.After-known-told2) → (let a = (start_of (read_of c)).args in
-    Inputs a.lim a.lim.literals a.s.now a.k.now c.before.both2.given.0.0 c.before.both2.given.0.1.0)
+given : (c : tie.In-Read) → (let a = c.args in
+    Inputs a.lim a.lim.literals a.s.now a.k.now c.in-Read.held c.in-Read.count)
 given c =
-    let a = (start_of (read_of c)).args in
-    inputs_read a.lim a.lim.literals a.s.now a.k.now _ _ (sym (read_of c).read-inputs.ensures ∙ c.before.both2.given.1)
+    let a = c.args in
+    inputs_read a.lim a.lim.literals a.s.now a.k.now _ _ (sym c.read_inputs-both.ensures ∙ c.in-Read.is)
 
-same : (c : tie.Else1) → (start_of (read_of c.before.before)).args.s.now ≡ encoded_program (expanded (given c.before.before).file)
+same : (c : tie.Else-has_sheets) → c.args.s.now ≡ encoded_program (expanded (given c.before.before).file)
 same c =
-    let at_told = c.before.before in
-    let start = start_of (read_of at_told) in
-    let a = start.args in
-    held-unsheeted a.lim a.s.now (given at_told).file (bytes (read_of at_told)) (given at_told).holds _ (given at_told).held
-    (sym c.before.has-sheets.ensures ∙ c.if1.false)
+    let a = c.args in
+    held-unsheeted a.lim a.s.now (given c.before.before).file (bytes c.before.before.before) (given c.before.before).holds _ (given c.before.before).held
+    (sym c.has_sheets.ensures ∙ c.if-has_sheets.false)
 
--- what was read, from where an array that is not used is there
-abbrev told_of : tie.After-none → tie.After-known-told2
-told_of c = c.before.before.before
-
-divide-meant-requires : tie.Need-divide-meant-requires
+divide-meant-requires : tie.Need-divide_meant-requires
 divide-meant-requires c κs =
-    let at_told = told_of c.before in
-    let start = start_of (read_of at_told) in
-    let a = start.args in
-    file-dividing a.lim a.s.now a.k.now a.out.now start.pre.0 (given at_told) (bytes (read_of at_told)) start.pre.1
+    let a = c.args in
+    file-dividing a.lim a.s.now a.k.now a.out.now c.requires.0 (given c.before.before.before.before) (bytes c.before.before.before.before.before) c.requires.1
 
-returns : tie.Need-returns
+returns : tie.Need-returns-then-has_sheets
 returns c =
-    let at-meant = c.before.before.before in
-    let at_told = told_of at-meant.before.before in
-    let start = start_of (read_of at_told) in
-    let a = start.args in
-    file-met a.lim a.s.now a.k.now a.out.now start.pre.0 (given at_told) (bytes (read_of at_told)) start.pre.1
-    at-meant.divide-meant.ensures
+    let a = c.args in
+    file-met a.lim a.s.now a.k.now a.out.now c.requires.0 (given c.before.before.before.before.before.before.before.before) (bytes c.before.before.before.before.before.before.before.before.before) c.requires.1
+    c.divide_meant.ensures
 
-divide-program-requires : tie.Need-divide-program-requires
+divide-program-requires : tie.Need-divide_program-requires
 divide-program-requires c κs =
-    let at-if = c.before in
-    let at_told = at-if.before.before in
-    let start = start_of (read_of at_told) in
-    let a = start.args in
-    read-dividing a.lim a.s.now a.k.now a.out.now start.pre.0 (given at_told) (bytes (read_of at_told)) a.s.now (same at-if)
+    let a = c.args in
+    read-dividing a.lim a.s.now a.k.now a.out.now c.requires.0 (given c.before.before.before) (bytes c.before.before.before.before) a.s.now (same c.before)
 
-returns-2 : tie.Need-returns-2
+returns-2 : tie.Need-returns-in-Refused
 returns-2 c =
-    let at_read = c.before.before.before in
-    let a = (start_of at_read).args in
-    refused-met a.lim a.s.now a.k.now a.out.now _ (sym at_read.read-inputs.ensures ∙ c.before.both.given.1)
+    let a = c.args in
+    refused-met a.lim a.s.now a.k.now a.out.now _ (sym c.read_inputs-both.ensures ∙ c.in-Refused.is)
 
-returns-3 : tie.Need-returns-3
+returns-3 : tie.Need-returns-else-has_sheets
 returns-3 c =
-    let at-divide = c.before.before in
-    let at-if = at-divide.before.before in
-    let at_told = at-if.before.before in
-    let start = start_of (read_of at_told) in
-    let a = start.args in
-    read-met a.lim a.s.now a.k.now a.out.now start.pre.0 (given at_told) (bytes (read_of at_told)) a.s.now (same at-if)
-    at-divide.divide-program.ensures
+    let a = c.args in
+    read-met a.lim a.s.now a.k.now a.out.now c.requires.0 (given c.before.before.before.before.before.before) (bytes c.before.before.before.before.before.before.before) a.s.now (same c.before.before.before.before)
+    c.divide_program.ensures
 
 pub divide_file_spec : {M : Type 1} → statement M
 divide_file_spec =

@@ -12,16 +12,13 @@ use Rattle.quotient.proofs.quotient.quotient_plain.Tie as tie
 
 divide-requires : tie.Need-divide-requires
 divide-requires c κs =
-    let same = sym c.before.limits.ensures in
+    let same = sym c.limits.ensures in
     (subst Sized same sized-plain, subst (λ (F : Limits). F.sheets ≡ 0) same plain-unsheeted)
 
 returns : tie.Need-returns
 returns c =
-    let at-divide = c.before.before in
-    let at-limits = at-divide.before.before in
-    let at-shared-slice-known = at-limits.before.before.before in
-    let a = at-shared-slice-known.before.args in
-    met-same at-limits.limits.result plain a.s.now a.k.now a.out.now at-limits.limits.ensures at-divide.divide.ensures
+    let a = c.args in
+    met-same c.limits.result plain a.s.now a.k.now a.out.now c.limits.ensures c.divide.ensures
 
 pub quotient_plain_spec : {M : Type 1} → statement M
 quotient_plain_spec = tie.close (tie.spec (λ c κs. search rules) divide-requires (λ c. search rules) returns)

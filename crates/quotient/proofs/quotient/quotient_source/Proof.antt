@@ -10,18 +10,15 @@ use Rattle.quotient.proofs.Laws.Quotient.{met-same, sized-source}
 use Rattle.quotient.proofs.quotient.quotient_source.Statement.{statement}
 use Rattle.quotient.proofs.quotient.quotient_source.Tie as tie
 
-divide-file-requires : tie.Need-divide-file-requires
+divide-file-requires : tie.Need-divide_file-requires
 divide-file-requires c κs =
-    let same = sym c.before.limits.ensures in
+    let same = sym c.limits.ensures in
     (subst Sized same sized-source, subst Normalizable same normalizable-source)
 
 returns : tie.Need-returns
 returns c =
-    let at-divide = c.before.before in
-    let at-limits = at-divide.before.before in
-    let at-shared-slice-known = at-limits.before.before.before in
-    let a = at-shared-slice-known.before.args in
-    met-same at-limits.limits.result source a.s.now a.k.now a.out.now at-limits.limits.ensures at-divide.divide-file.ensures
+    let a = c.args in
+    met-same c.limits.result source a.s.now a.k.now a.out.now c.limits.ensures c.divide_file.ensures
 
 pub quotient_source_spec : {M : Type 1} → statement M
 quotient_source_spec = tie.close (tie.spec (λ c κs. search rules) divide-file-requires (λ c. search rules) returns)

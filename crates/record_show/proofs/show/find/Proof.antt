@@ -12,82 +12,55 @@ use Rattle.record_show.proofs.Laws.Shown.{shown-refused, shown-zero, shown-above
 use Rattle.record_show.proofs.show.find.Statement.{statement}
 use Rattle.record_show.proofs.show.find.Tie as tie
 
--- the entry, and what the file holds
-abbrev read_of : tie.After-known-told2 → tie.After-read-items
-read_of c =
-    let at-match = c.before.before in
-    at-match.before
+held : (c : tie.In-All) → holding_of (items c.args.lim c.args.s.now) ≡ Holding.All c.in-All.held
+held c = sym c.read_items-file.ensures ∙ c.in-All.is
 
-abbrev start_of : tie.After-known-told2 → tie.Start
-start_of c = (read_of c).before.before
+bytes : (c : tie.In-All) → Bytes c.args.s.now
+bytes c i = (c.shared_slice_known-1.given i).fits
 
-held : (c : tie.After-known-told2) → holding_of (items (start_of c).args.lim (start_of c).args.s.now) ≡ Holding.All c.before.file2.given.0.0
-held c = sym (read_of c).read-items.ensures ∙ c.before.file2.given.1
-
-bytes : (c : tie.After-known-told2) → Bytes (start_of c).args.s.now
-bytes c i = ((read_of c).before.shared-slice-known.given i).fits
-
-returns : tie.Need-returns
+returns : tie.Need-returns-then-n-eq0
 returns c =
-    let at_held = c.before in
-    let a = (start_of at_held).args in
-    sym (shown-zero a.lim a.s.now a.number _ (held at_held) c.if1.true)
+    let a = c.args in
+    sym (shown-zero a.lim a.s.now a.number _ (held c.before) c.if-n-eq0.true)
 
-returns-2 : tie.Need-returns-2
+returns-2 : tie.Need-returns-then-held-n
 returns-2 c =
-    let at_held = c.before.before.before in
-    let a = (start_of at_held).args in
-    sym (shown-above a.lim a.s.now a.number _ (held at_held) (omega (arith, c.if2.true)))
+    let a = c.args in
+    sym (shown-above a.lim a.s.now a.number _ (held c.before.before.before) (omega (arith, c.if-held-n.true)))
 
--- where the number was found to be one of a rule's
-abbrev held_of : tie.After-has-sheets → tie.After-known-told2
-held_of c =
-    let at-if1 = c.before.before.before in
-    at-if1.before
+some : (c : tie.After-has_sheets) → 1 ≤ c.args.number
+some c = omega (arith, c.if-n-eq0.false)
 
-some : (c : tie.After-has-sheets) → 1 ≤ (start_of (held_of c)).args.number
-some c = omega (arith, c.before.before.before.if1.false)
-
-walk-items-requires : tie.Need-walk-items-requires
+walk-items-requires : tie.Need-walk_items-requires
 walk-items-requires c κs =
-    let at-sheets = c.before in
-    let at_held = held_of at-sheets in
-    let a = (start_of at_held).args in
-    given-file a.lim a.s.now a.number _ (held at_held) (bytes at_held) (some at-sheets) at-sheets.before.if2.false
+    let a = c.args in
+    given-file a.lim a.s.now a.number _ (held c.before.before.before.before.before) (bytes c.before.before.before.before.before) (some c.before) c.if-held-n.false
 
-returns-3 : tie.Need-returns-3
+returns-3 : tie.Need-returns-then-has_sheets
 returns-3 c =
-    let at-sheets = c.before.before in
-    let at_held = held_of at-sheets in
-    let a = (start_of at_held).args in
-    let fits = at-sheets.before.if2.false in
-    ap Shown.At (c.walk-items.ensures (given-file a.lim a.s.now a.number _ (held at_held) (bytes at_held) (some at-sheets) fits))
-    ∙ sym (shown-file a.lim a.s.now a.number _ (held at_held) (bytes at_held) (some at-sheets) fits)
+    let a = c.args in
+    let fits = c.if-held-n.false in
+    ap Shown.At (c.walk_items.ensures (given-file a.lim a.s.now a.number _ (held c.before.before.before.before.before.before) (bytes c.before.before.before.before.before.before) (some c.before.before) fits))
+    ∙ sym (shown-file a.lim a.s.now a.number _ (held c.before.before.before.before.before.before) (bytes c.before.before.before.before.before.before) (some c.before.before) fits)
 
 walk-requires : tie.Need-walk-requires
 walk-requires c κs =
-    let at-sheets = c.before in
-    let at_held = held_of at-sheets in
-    let a = (start_of at_held).args in
-    given a.lim a.s.now a.number _ (held at_held) (bytes at_held) (some at-sheets) at-sheets.before.if2.false
-    (sym at-sheets.has-sheets.ensures ∙ c.if3.false)
+    let a = c.args in
+    given a.lim a.s.now a.number _ (held c.before.before.before.before.before) (bytes c.before.before.before.before.before) (some c.before) c.if-held-n.false
+    (sym c.has_sheets.ensures ∙ c.if-has_sheets.false)
 
-returns-4 : tie.Need-returns-4
+returns-4 : tie.Need-returns-in-Refused
 returns-4 c =
-    let at-refused = c.before in
-    let at_read = at-refused.before.before in
-    let a = at_read.before.before.args in
-    sym (shown-refused a.lim a.s.now a.number _ (sym at_read.read-items.ensures ∙ at-refused.file.given.1))
+    let a = c.args in
+    sym (shown-refused a.lim a.s.now a.number _ (sym c.read_items-file.ensures ∙ c.in-Refused.is))
 
-returns-5 : tie.Need-returns-5
+returns-5 : tie.Need-returns-else-has_sheets
 returns-5 c =
-    let at-sheets = c.before.before in
-    let at_held = held_of at-sheets in
-    let a = (start_of at_held).args in
-    let fits = at-sheets.before.if2.false in
-    let none = sym at-sheets.has-sheets.ensures ∙ c.before.if3.false in
-    ap Shown.At (c.walk.ensures (given a.lim a.s.now a.number _ (held at_held) (bytes at_held) (some at-sheets) fits none))
-    ∙ sym (shown-given a.lim a.s.now a.number _ (held at_held) (bytes at_held) (some at-sheets) fits none)
+    let a = c.args in
+    let fits = c.if-held-n.false in
+    let none = sym c.has_sheets.ensures ∙ c.if-has_sheets.false in
+    ap Shown.At (c.walk.ensures (given a.lim a.s.now a.number _ (held c.before.before.before.before.before.before) (bytes c.before.before.before.before.before.before) (some c.before.before) fits none))
+    ∙ sym (shown-given a.lim a.s.now a.number _ (held c.before.before.before.before.before.before) (bytes c.before.before.before.before.before.before) (some c.before.before) fits none)
 
 pub find_spec : {M : Type 1} → statement M
 find_spec =

@@ -5,7 +5,7 @@ use Rattle.record_show.proofs.show.find_plain.Statement.{statement}
 use Rattle.record_show.proofs.show.find_plain.Tie as tie
 
 returns : tie.Need-returns
-returns c = rw (← c.before.limits.ensures) c.find.ensures
+returns c = rw (← c.limits.ensures) c.find.ensures
 
 pub find_plain_spec : {M : Type 1} → statement M
 find_plain_spec = tie.close (tie.spec (λ c κs. search rules) (λ c κs. search rules) returns)

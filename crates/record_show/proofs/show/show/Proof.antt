@@ -11,36 +11,32 @@ use Rattle.record_show.proofs.Laws.Shown.{shown-fits}
 use Rattle.record_show.proofs.show.show.Statement.{statement}
 use Rattle.record_show.proofs.show.show.Tie as tie
 
-returns : tie.Need-returns
+returns : tie.Need-returns-in_default
 unfolding shown_extent
 returns c =
-    let told = sym c.before.before.before.find.ensures ∙ c.before.enum_told.given.1 in
+    let told = sym c.find-a.ensures ∙ c.in_default.is in
     rw told (record { bytes = refl; block = refl; offset = refl })
 
-add-end : tie.Need-overflow-add-end
+add-end : tie.Need-overflow_add-end
 add-end c =
-    let at-match = c.before.before.before in
-    let args = at-match.before.before.before.args in
-    let told = sym at-match.before.find.ensures ∙ c.before.before.a.given.1 in
-    let fits = shown-fits args.lim args.s.now args.number _ (λ i. (at-match.before.before.shared-slice-known.given i).fits) told in
+    let args = c.args in
+    let told = sym c.find-a.ensures ∙ c.in-At.is in
+    let fits = shown-fits args.lim args.s.now args.number _ (λ i. (c.shared_slice_known-1.given i).fits) told in
     omega (arith, fits)
 
-part-result-end-2 : tie.Need-slice-bounds-result-end-2
+part-result-end-2 : tie.Need-slice_bounds-result-end-2
 part-result-end-2 c =
-    let at-match = c.before.before.before in
-    let args = at-match.before.before.before.args in
-    let told = sym at-match.before.find.ensures ∙ c.before.before.a.given.1 in
-    let fits = shown-fits args.lim args.s.now args.number _ (λ i. (at-match.before.before.shared-slice-known.given i).fits) told in
+    let args = c.args in
+    let told = sym c.find-a.ensures ∙ c.in-At.is in
+    let fits = shown-fits args.lim args.s.now args.number _ (λ i. (c.shared_slice_known-1.given i).fits) told in
     fits
 
-returns-2 : tie.Need-returns-2
+returns-2 : tie.Need-returns
 unfolding shown_extent
 returns-2 c =
-    let at_a = c.before.before.before in
-    let at-find = at_a.before.before in
-    let args = at-find.before.before.args in
-    let told = sym at-find.find.ensures ∙ at_a.a.given.1 in
-    let e = at_a.a.given.0.0 in
+    let args = c.args in
+    let told = sym c.find-a.ensures ∙ c.in-At.is in
+    let e = c.in-At.e in
     rw told
     (record { bytes = ap (λ (k : ℕ). take k (drop e.start args.s.now)) (add-sub_cancel_left e.start e.size); block = refl; offset = refl })
 

@@ -5,7 +5,7 @@ use Rattle.record_show.proofs.show.show_plain.Statement.{statement}
 use Rattle.record_show.proofs.show.show_plain.Tie as tie
 
 returns : tie.Need-returns
-returns c = rw (← c.before.limits.ensures) c.show.ensures
+returns c = rw (← c.limits.ensures) c.show.ensures
 
 pub show_plain_spec : {M : Type 1} → statement M
 show_plain_spec = tie.close (tie.spec (λ c κs. search rules) (λ c κs. search rules) returns)

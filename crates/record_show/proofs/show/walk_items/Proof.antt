@@ -6,7 +6,7 @@ use native.Mathlib.Omega.{arith}
 use mathlib.Core.Path.{◌≡◌, sym, ◌∙◌, ap}
 use mathlib.Core.List.{List, [], ◌∷◌, ◌++◌}
 use lib.ListN.{length, get_or, take, drop, length-take, length-drop}
-use borrow.Author.Rules.{rules}
+use borrow.Author.Rules.{rules as known}
 use borrow.Author.Rules.{part_to_end}
 use Rattle.semantics.specs.Item.{rules}
 use Rattle.record.specs.Header.{letter_of}
@@ -19,99 +19,87 @@ use Rattle.record_show.proofs.Laws.Extent.{rules-more, rules-in, extent-item, it
 use Rattle.record_show.proofs.show.walk_items.Statement.{statement}
 use Rattle.record_show.proofs.show.walk_items.Tie as tie
 
-abbrev invariant-loop : tie.invariant-loop
+abbrev invariant-loop : tie.invariant-loop-left
 invariant-loop s number at₀ left₀ at left = (1 ≤ left) × ItemPass (NumberedIn number) s at (λ gone. length (rules gone) + left ≡ number)
 
-abbrev decreases-loop : tie.decreases-loop
+abbrev decreases-loop : tie.decreases-loop-left
 decreases-loop s number at₀ left₀ at left = length s - at
 
 -- the file's bytes, and the part that is left
-abbrev source : tie.At-loop invariant-loop decreases-loop → List ℕ
-source c = c.before.before.args.s.now
+abbrev source : tie.At-loop-left invariant-loop decreases-loop → List ℕ
+source c = c.args.s.now
 
-abbrev part : tie.At-loop invariant-loop decreases-loop → List ℕ
-part c = take (length (source c) - c.loop.at) (drop c.loop.at (source c))
+abbrev part : tie.At-loop-left invariant-loop decreases-loop → List ℕ
+part c = take (length (source c) - c.loop-left.at) (drop c.loop-left.at (source c))
 
 -- where the loop is, in a file that the slice holds
-here : (c : tie.At-loop invariant-loop decreases-loop) (w : HoldsFile (NumberedIn c.before.before.args.number) (source c))
-    → AlongItems (source c) w.items c.loop.at (λ gone. length (rules gone) + c.loop.left ≡ c.before.before.args.number)
-here c w = c.loop.invariant.1 w
+here : (c : tie.At-loop-left invariant-loop decreases-loop) (w : HoldsFile (NumberedIn c.args.number) (source c))
+    → AlongItems (source c) w.items c.loop-left.at (λ gone. length (rules gone) + c.loop-left.left ≡ c.args.number)
+here c w = c.loop-left.invariant.1 w
 
-opens : (c : tie.At-loop invariant-loop decreases-loop) → c.loop.at + 4 ≤ length (source c)
-opens c = items-open (here c c.before.before.requires).walk
+opens : (c : tie.At-loop-left invariant-loop decreases-loop) → c.loop-left.at + 4 ≤ length (source c)
+opens c = items-open (here c c.requires).walk
 
 -- the next item's record
-next : (c : tie.At-loop invariant-loop decreases-loop) (w : HoldsFile (NumberedIn c.before.before.args.number) (source c))
-    → MoreItem (source c) w.items (here c w).gone c.loop.at (part c)
+next : (c : tie.At-loop-left invariant-loop decreases-loop) (w : HoldsFile (NumberedIn c.args.number) (source c))
+    → MoreItem (source c) w.items (here c w).gone c.loop-left.at (part c)
 next c w =
-    item-next (here c w).walk (omega (arith, (here c w).made, c.loop.invariant.0, w.asked.most)) (part c) (part_to_end (source c) c.loop.at)
+    item-next (here c w).walk (omega (arith, (here c w).made, c.loop-left.invariant.0, w.asked.most)) (part c) (part_to_end (source c) c.loop-left.at)
 
 -- it has six bytes or more, and the end record's four stand behind it
-large : (c : tie.At-loop invariant-loop decreases-loop) → 7 ≤ length (part c)
+large : (c : tie.At-loop-left invariant-loop decreases-loop) → 7 ≤ length (part c)
 large c =
-    let m = next c c.before.before.requires in
+    let m = next c c.requires in
     simp (length-take, length-drop) (omega (arith, m.fits, m.size, item-large m.the-item))
 
-abbrev loop-of : tie.After-count-rule invariant-loop decreases-loop → tie.At-loop invariant-loop decreases-loop
-loop-of c =
-    let at-item-size = c.before.before in
-    at-item-size.before.before
-
 -- the rules that were counted there
-counted : (c : tie.After-count-rule invariant-loop decreases-loop) → c.count-rule.result ≡ rules_in (letter_of (part (loop-of c)))
+counted : (c : tie.After-count_rule-rules invariant-loop decreases-loop) → c.count_rule-rules.result ≡ rules_in (letter_of (part c.before.before.before.before))
 counted c =
-    let at-loop = loop-of c in
-    c.count-rule.ensures
-    ∙ ap rules_in (letter_at (source at-loop) at-loop.loop.at ∙ ap letter_of (sym (part_to_end (source at-loop) at-loop.loop.at)))
+    c.count_rule-rules.ensures
+    ∙ ap rules_in (letter_at (source c.before.before.before.before) c.loop-left.at ∙ ap letter_of (sym (part_to_end (source c.before.before.before.before) c.loop-left.at)))
 
-returns : tie.Need-returns invariant-loop decreases-loop
+returns : tie.Need-returns-then-left-rules invariant-loop decreases-loop
 returns c w =
-    let at-rule = c.before in
-    let at-loop = loop-of at-rule in
-    let l = at-loop.loop in
-    let there = here at-loop w in
-    rw at-rule.before.before.item-size.ensures
-    (sym (extent-item _ l.left there.made l.inv.0 there.walk (next at-loop w) (omega (arith, c.if1.true, counted at-rule))))
+    let l = c.loop-left in
+    let there = here c.before.before.before.before.before w in
+    rw c.item_size-size.ensures
+    (sym (extent-item _ l.left there.made l.invariant.0 there.walk (next c.before.before.before.before.before w) (omega (arith, c.if-left-rules.true, counted c.before))))
 
 -- the item's size, seen behind the test
-size_of : (c : tie.Else1 invariant-loop decreases-loop) → c.before.before.before.item-size.result + (loop-of c.before).loop.at + 4 ≤ length (source (loop-of c.before))
+size_of : (c : tie.Else-left-rules invariant-loop decreases-loop) → c.item_size-size.result + c.loop-left.at + 4 ≤ length (source c.before.before.before.before.before)
 size_of c =
-    let at-loop = loop-of c.before in
-    let m = next at-loop at-loop.before.before.pre in
-    omega (arith, c.before.before.before.item-size.ensures, m.fits)
+    let m = next c.before.before.before.before.before c.requires in
+    omega (arith, c.item_size-size.ensures, m.fits)
 
-more : (c : tie.Else1 invariant-loop decreases-loop) → 6 ≤ c.before.before.before.item-size.result
+more : (c : tie.Else-left-rules invariant-loop decreases-loop) → 6 ≤ c.item_size-size.result
 more c =
-    let at-loop = loop-of c.before in
-    let m = next at-loop at-loop.before.before.pre in
-    omega (arith, c.before.before.before.item-size.ensures, m.size, item-large m.the-item)
+    let m = next c.before.before.before.before.before c.requires in
+    omega (arith, c.item_size-size.ensures, m.size, item-large m.the-item)
 
-loop-again : tie.Need-loop-preserved invariant-loop decreases-loop
+loop-again : tie.Need-loop-left-preserved invariant-loop decreases-loop
 loop-again c =
-    let at-rule = c.before in
-    let at-loop = loop-of at-rule in
-    let l = at-loop.loop in (
-      omega (arith, c.if1.false),
+    let l = c.loop-left in (
+      omega (arith, c.if-left-rules.false),
       (λ w.
-          let there = here at-loop w in
-          let m = next at-loop w in
+          let there = here c.before.before.before.before.before w in
+          let m = next c.before.before.before.before.before w in
           record {
             gone = there.gone ++ m.the-item ∷ [];
-            walk = m.next _ at-rule.before.before.item-size.ensures;
-            made = omega (arith, there.made, rules-more there.gone m.the-item, rules-in (part at-loop) m.the-item m.starts, counted at-rule, c.if1.false);
+            walk = m.next _ c.item_size-size.ensures;
+            made = omega (arith, there.made, rules-more there.gone m.the-item, rules-in (part c.before.before.before.before.before) m.the-item m.starts, counted c.before, c.if-left-rules.false);
           }),
     )
 
-loop-holds : tie.Need-loop-init invariant-loop decreases-loop
+loop-holds : tie.Need-loop-left-init invariant-loop decreases-loop
 unfolding rules
 loop-holds c = (
-  omega (arith, c.before.requires.asked.one),
-  item-pass-start c.before.args.s.now (λ gone. length (rules gone) + c.before.args.number ≡ c.before.args.number) (omega arith),
+  omega (arith, c.requires.asked.one),
+  item-pass-start c.args.s.now (λ gone. length (rules gone) + c.args.number ≡ c.args.number) (omega arith),
 )
 
 pub walk_items_spec : {M : Type 1} → statement M
 walk_items_spec =
     tie.close (tie.spec invariant-loop decreases-loop loop-holds
-    (λ c. omega (arith, opens c)) (λ c. omega (arith, opens c)) (λ c. search rules) (λ c κs. large c.before)
-    (λ c. let at-loop = c.before.before.before in omega (arith, opens at-loop)) (λ c κs. search rules) returns
-    (λ c. omega (arith, size_of c)) (λ c. search rules) (λ c. omega (arith, size_of c, more c)) loop-again)
+    (λ c. omega (arith, opens c)) (λ c. omega (arith, opens c)) (λ c. search known) (λ c κs. large c.before)
+    (λ c. omega (arith, opens c.before.before.before)) (λ c κs. search known) returns
+    (λ c. omega (arith, size_of c)) (λ c. search known) (λ c. omega (arith, size_of c, more c)) loop-again)

@@ -9,65 +9,39 @@ use Rattle.translate.proofs.Laws.Translate.{refused-met, given, read-met, given-
 use Rattle.translate.proofs.translate.translate.Statement.{statement}
 use Rattle.translate.proofs.translate.translate.Tie as tie
 
--- the entry, and where the file was read
-abbrev start_of : tie.After-read-items → tie.Start
-start_of c = c.before.before.before
-
-abbrev read_of : tie.After-known-told2 → tie.After-read-items
-read_of c =
-    let at-match = c.before.before in
-    at-match.before
-
 -- the file's elements are bytes, and it was read
-bytes : (c : tie.After-read-items) → Bytes (start_of c).args.s.now
-bytes c i = (c.before.before.shared-slice-known.given i).fits
+bytes : (c : tie.After-read_items-file) → Bytes c.args.s.now
+bytes c i = (c.shared_slice_known-1.given i).fits
 
-held : (c : tie.After-known-told2) → (let a = (start_of (read_of c)).args in holding_of (items a.lim a.s.now)) ≡ Holding.All c.before.file2.given.0.0
-held c = sym (read_of c).read-items.ensures ∙ c.before.file2.given.1
+held : (c : tie.In-All) → (let a = c.args in holding_of (items a.lim a.s.now)) ≡ Holding.All c.in-All.held
+held c = sym c.read_items-file.ensures ∙ c.in-All.is
 
--- what the file holds, from where an array that is not used is there
-abbrev told_of : tie.After-none → tie.After-known-told2
-told_of c = c.before.before.before
-
-translate-meant-requires : tie.Need-translate-meant-requires
+translate-meant-requires : tie.Need-translate_meant-requires
 translate-meant-requires c κs =
-    let at_told = told_of c.before in
-    let start = start_of (read_of at_told) in
-    let a = start.args in
-    given-file a.lim a.s.now a.out.now start.pre.0 (bytes (read_of at_told)) _ (held at_told) start.pre.1
+    let a = c.args in
+    given-file a.lim a.s.now a.out.now c.requires.0 (bytes c.before.before.before.before.before) _ (held c.before.before.before.before) c.requires.1
 
-returns : tie.Need-returns
+returns : tie.Need-returns-then-has_sheets
 returns c =
-    let at-meant = c.before.before.before in
-    let at_told = told_of at-meant.before.before in
-    let start = start_of (read_of at_told) in
-    let a = start.args in
-    file-met a.lim a.s.now a.out.now start.pre.0 (bytes (read_of at_told)) _ (held at_told) start.pre.1
-    at-meant.translate-meant.ensures
+    let a = c.args in
+    file-met a.lim a.s.now a.out.now c.requires.0 (bytes c.before.before.before.before.before.before.before.before.before) _ (held c.before.before.before.before.before.before.before.before) c.requires.1
+    c.translate_meant.ensures
 
-write-translation-requires : tie.Need-write-translation-requires
+write-translation-requires : tie.Need-write_translation-requires
 write-translation-requires c κs =
-    let at-if = c.before in
-    let at_told = at-if.before.before in
-    let start = start_of (read_of at_told) in
-    let a = start.args in
-    given a.lim a.s.now a.out.now start.pre.0 (bytes (read_of at_told)) _ (held at_told) (sym at-if.before.has-sheets.ensures ∙ at-if.if1.false)
+    let a = c.args in
+    given a.lim a.s.now a.out.now c.requires.0 (bytes c.before.before.before.before) _ (held c.before.before.before) (sym c.has_sheets.ensures ∙ c.if-has_sheets.false)
 
-returns-2 : tie.Need-returns-2
+returns-2 : tie.Need-returns-in-Refused
 returns-2 c =
-    let at_read = c.before.before.before in
-    let a = (start_of at_read).args in
-    refused-met a.lim a.s.now a.out.now _ (sym at_read.read-items.ensures ∙ c.before.file.given.1)
+    let a = c.args in
+    refused-met a.lim a.s.now a.out.now _ (sym c.read_items-file.ensures ∙ c.in-Refused.is)
 
-returns-3 : tie.Need-returns-3
+returns-3 : tie.Need-returns-else-has_sheets
 returns-3 c =
-    let at-write = c.before.before in
-    let at-if = at-write.before.before in
-    let at_told = at-if.before.before in
-    let start = start_of (read_of at_told) in
-    let a = start.args in
-    read-met a.lim a.s.now a.out.now start.pre.0 (bytes (read_of at_told)) _ (held at_told)
-    (sym at-if.before.has-sheets.ensures ∙ at-if.if1.false) at-write.write-translation.ensures
+    let a = c.args in
+    read-met a.lim a.s.now a.out.now c.requires.0 (bytes c.before.before.before.before.before.before.before) _ (held c.before.before.before.before.before.before)
+    (sym c.has_sheets.ensures ∙ c.if-has_sheets.false) c.write_translation.ensures
 
 pub translate_spec : {M : Type 1} → statement M
 translate_spec =

@@ -12,15 +12,12 @@ use Rattle.translate.proofs.translate.translate_source.Tie as tie
 
 translate-requires : tie.Need-translate-requires
 translate-requires c κs =
-    let same = sym c.before.limits.ensures in
+    let same = sym c.limits.ensures in
     (subst Writable same writable-source, subst Normalizable same normalizable-source)
 
 returns : tie.Need-returns
 returns c =
-    let at-translate = c.before.before in
-    let at-limits = at-translate.before.before in
-    let start = at-limits.before.before.before in
-    meets-same at-limits.limits.result source start.args.s.now start.args.out.now at-limits.limits.ensures at-translate.translate.ensures
+    meets-same c.limits.result source c.args.s.now c.args.out.now c.limits.ensures c.translate.ensures
 
 pub translate_source_spec : {M : Type 1} → statement M
 translate_source_spec = tie.close (tie.spec (λ c κs. search rules) translate-requires (λ c. search rules) returns)

@@ -5,27 +5,19 @@ use Rattle.translate.proofs.Laws.Translate.{short-met, fitting, written-met}
 use Rattle.translate.proofs.translate.write_translation.Statement.{statement}
 use Rattle.translate.proofs.translate.write_translation.Tie as tie
 
--- the entry, from where the translation was measured
-abbrev start_of : tie.After-measure-rules → tie.Start
-start_of c = c.before.before.before
-
-returns : tie.Need-returns
+returns : tie.Need-returns-then-out-n
 returns c w =
-    let a = (start_of c.before).args in
-    short-met a.s.now a.out.now w _ c.before.measure-rules.ensures c.if1.true
+    let a = c.args in
+    short-met a.s.now a.out.now w _ c.measure_rules-n.ensures c.if-out-n.true
 
-write-rules-requires : tie.Need-write-rules-requires
+write-rules-requires : tie.Need-write_rules-requires
 write-rules-requires c κs =
-    let at-measure = c.before.before in
-    let start = start_of at-measure in
-    fitting start.args.s.now start.args.out.now start.pre _ at-measure.measure-rules.ensures c.before.if1.false
+    fitting c.args.s.now c.args.out.now c.requires _ c.measure_rules-n.ensures c.if-out-n.false
 
-returns-2 : tie.Need-returns-2
+returns-2 : tie.Need-returns
 returns-2 c w =
-    let at-write = c.before.before in
-    let at-if = at-write.before.before in
-    let a = (start_of at-if.before).args in
-    written-met a.s.now a.out.now w _ at-if.before.measure-rules.ensures at-if.if1.false _ at-write.write-rules.ensures
+    let a = c.args in
+    written-met a.s.now a.out.now w _ c.measure_rules-n.ensures c.if-out-n.false _ c.write_rules.ensures
 
 pub write_translation_spec : {M : Type 1} → statement M
 write_translation_spec = tie.close (tie.spec (λ c κs. search rules) returns write-rules-requires (λ c. search rules) returns-2)
