@@ -56,11 +56,11 @@ next c = walk_more (here c.before.before.before).walk c.loop-at-test.true (part 
 
 -- a rule is left, so there is room for its clause, and its number is not the last
 pub record Room (c : tie.At-loop-at invariant-loop decreases-loop) : Type 0 where
-  pub bodies : c.loop.count < length c.loop.bodies
-  pub heads : c.loop.count < length c.loop.heads
-  pub number : c.loop.number < 65535
+  pub bodies : c.loop-at.count < length c.loop-at.bodies
+  pub heads : c.loop-at.count < length c.loop-at.heads
+  pub number : c.loop-at.number < 65535
 
-room : (c : tie.After-part-1 invariant-loop decreases-loop) → Room c
+room : (c : tie.After-part-1 invariant-loop decreases-loop) → Room c.before.before.before
 room c =
     let a = here c.before.before.before in
     let few = walk-few a.walk c.loop-at-test.true in

@@ -10,39 +10,28 @@ use Rattle.filter_print.proofs.Laws.Filter.{translated-place, prints-length, pri
 use Rattle.filter_print.proofs.filter.filter_translate.Statement.{statement}
 use Rattle.filter_print.proofs.filter.filter_translate.Tie as tie
 
-slice-aggregate-translate-source : tie.Need-slice-aggregate-translate-source
+slice-aggregate-translate-source : tie.Need-slice_bounds-translate_source-end
 slice-aggregate-translate-source c = sym (length-take-le _ _ (omega arith))
 
-write-refusal-requires : tie.Need-write-refusal-requires
+write-refusal-requires : tie.Need-write_refusal-requires
 write-refusal-requires c κs =
-    let at-refusal = c.before.before in
-    let at-match = at-refusal.before in
-    let at_call = at-match.before.before.before in
-    let place = translated-place _ _ _ (sym at_call.translate-source.ensures.answer ∙ at-refusal.answer2.given.1) in
-    (place, omega (arith, at_call.translate-source.auto.1.0))
+    let place = translated-place _ _ _ (sym c.translate_source-answer.ensures.answer ∙ c.in-Refused.is) in
+    (place, omega (arith, c.translate_source-answer.auto.out))
 
-returns : tie.Need-returns
+returns : tie.Need-returns-in-Length
 returns c =
-    let at-match = c.before.before in
-    let at_call = at-match.before.before.before in
-    let at-slice-known = at_call.before.before.before in
-    let a = at-slice-known.before.before.args in
+    let a = c.args in
     let came = take a.got a.input.now in
     let fits = length-take a.got a.input.now in
-    prints-length came a.out.now (omega (arith, fits)) (omega arith) _ _ _ at_call.translate-source.ensures c.before.answer.given.1
+    prints-length came a.out.now (omega (arith, fits)) (omega arith) _ _ _ c.translate_source-answer.ensures c.in-Length.is
 
-returns-2 : tie.Need-returns-2
+returns-2 : tie.Need-returns-in-Refused
 returns-2 c =
-    let at-write-refusal = c.before.before in
-    let at-refusal = at-write-refusal.before.before.before in
-    let at-match = at-refusal.before in
-    let at_call = at-match.before.before.before in
-    let at-slice-known = at_call.before.before.before in
-    let a = at-slice-known.before.before.args in
+    let a = c.args in
     let came = take a.got a.input.now in
     let fits = length-take a.got a.input.now in
-    prints-refusal came a.out.now (omega (arith, fits)) (omega arith) _ _ _ _ at_call.translate-source.ensures at-refusal.answer2.given.1
-    at-write-refusal.write-refusal.ensures
+    prints-refusal came a.out.now (omega (arith, fits)) (omega arith) _ _ _ _ c.translate_source-answer.ensures c.in-Refused.is
+    c.write_refusal.ensures
 
 pub filter_translate_spec : {M : Type 1} → statement M
 filter_translate_spec =
