@@ -6,68 +6,37 @@ use Rattle.check_set.proofs.Laws.Judge.{judge-long, judge-ascends, judge-few, ju
 use Rattle.check_set.proofs.judge.judge.Statement.{statement}
 use Rattle.check_set.proofs.judge.judge.Tie as tie
 
-find-clash-requires : tie.Need-find-clash-requires
+find-clash-requires : tie.Need-find_clash-position-requires
 find-clash-requires c κs =
-    let at-shared-slice-known2 = c.before.before.before in
-    let j = at-shared-slice-known2.before.before.requires in
+    let j = c.requires in
     (omega (arith, judge-long j), judge-ascends j)
 
-returns : tie.Need-returns
+returns : tie.Need-returns-then-position-gt0
 returns c =
-    let at_clash = c.before in
-    let at-slice-known = at_clash.before.before.before in
-    let start = at-slice-known.before.before.before in
-    judged-clash start.requires start.args.out.now at_clash.find-clash.ensures c.if1.true
+    judged-clash c.requires c.args.out.now c.find_clash-position.ensures c.if-position-gt0.true
 
-build-requires : tie.Need-build-requires
+build-requires : tie.Need-build-built-requires
 build-requires c κs =
-    let at-find-clash = c.before.before.before in
-    let at-slice-known = at-find-clash.before.before.before in
-    let j = at-slice-known.before.before.before.requires in
+    let j = c.requires in
     (j.program, (omega (arith, judge-long j), (judge-ascends j, j.few)))
 
-returns-2 : tie.Need-returns-2
+returns-2 : tie.Need-returns-then-broken-gt0
 returns-2 c =
-    let at-broken = c.before.before in
-    let at-heads = at-broken.before.before in
-    let at-build = at-heads.before.before.before in
-    let at_test = at-build.before.before.before in
-    let at_clash = at_test.before in
-    let at-slice-known = at_clash.before.before.before in
-    let start = at-slice-known.before.before.before in
-    judged-broken start.requires at_clash.find-clash.ensures (omega (arith, at_test.if1.false)) at-build.build.ensures
-    start.args.out.now c.if2.true
+    judged-broken c.requires c.find_clash-position.ensures (omega (arith, c.if-position-gt0.false)) c.build-built.ensures
+    c.args.out.now c.if-broken-gt0.true
 
 decide-requires : tie.Need-decide-requires
 decide-requires c κs =
-    let at-broken = c.before.before.before in
-    let at-broken' = at-broken.before.before in
-    let at-heads = at-broken'.before.before in
-    let at-build = at-heads.before.before.before in
-    let at-if1 = at-build.before.before.before in
-    let at-find-clash = at-if1.before in
-    let at-slice-known = at-find-clash.before.before.before in
-    let start = at-slice-known.before.before.before in
-    let few = judge-few start.requires at-build.build.ensures (omega (arith, at-broken.if2.false)) in (
-      (omega (arith, judge-long start.requires), omega (arith, judge-long start.requires, start.requires.room), start.requires.few),
+    let few = judge-few c.requires c.build-built.ensures (omega (arith, c.if-broken-gt0.false)) in (
+      (omega (arith, judge-long c.requires), omega (arith, judge-long c.requires, c.requires.room), c.requires.few),
       (omega (arith, few.0), omega (arith, few.1)),
     )
 
-returns-3 : tie.Need-returns-3
+returns-3 : tie.Need-returns
 returns-3 c =
-    let at-decide = c.before.before in
-    let at-decide-arg = at-decide.before.before.before in
-    let at-broken = at-decide-arg.before in
-    let at-broken' = at-broken.before.before in
-    let at-heads = at-broken'.before.before in
-    let at-build = at-heads.before.before.before in
-    let at_test = at-build.before.before.before in
-    let at_clash = at_test.before in
-    let at-slice-known = at_clash.before.before.before in
-    let start = at-slice-known.before.before.before in
-    let few = judge-few start.requires at-build.build.ensures (omega (arith, at-broken.if2.false)) in
-    judged-decided start.requires at_clash.find-clash.ensures (omega (arith, at_test.if1.false)) at-build.build.ensures start.args.out.now
-    (omega (arith, at-broken.if2.false)) (omega (arith, few.0, at-build.build.auto.1.1.1.0)) at-decide.decide.ensures
+    let few = judge-few c.requires c.build-built.ensures (omega (arith, c.if-broken-gt0.false)) in
+    judged-decided c.requires c.find_clash-position.ensures (omega (arith, c.if-position-gt0.false)) c.build-built.ensures c.args.out.now
+    (omega (arith, c.if-broken-gt0.false)) (omega (arith, few.0, c.build-built.auto.bodies)) c.decide.ensures
 
 pub judge_spec : {M : Type 1} → statement M
 judge_spec =

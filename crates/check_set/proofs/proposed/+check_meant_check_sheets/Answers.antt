@@ -46,11 +46,11 @@ check_meant-check_meant-requires t c =
     let lent = subst (λ (b : Bool). cond b (cond (ltb (length c.args.normal.now) normal_bytes) 3 1) 0 ≡ t) c.if-not-sheeted.false c.decreases in
     let one = subst (λ (b : Bool). cond b 3 1 ≡ t) (le-ltb (length c.args.normal.now) normal_bytes c.if-normal-lt-NORMAL.false) lent in (
       subst (λ (b : Bool). cond b 3 0 < t) (sym none) (omega (arith, one)),
-      record {
-        given = given-as _ _ _ _ _ (sym none)
-            (checking-lent c.requires.lent c.if-normal-lt-NORMAL.false (normal-checking file c.write_normal-made.ensures.normal));
-        lent = λ long. absurd (omega arith);
-      },
+      (
+        given-as _ _ _ _ _ (sym none)
+            (checking-lent c.requires.lent c.if-normal-lt-NORMAL.false (normal-checking file c.write_normal-made.ensures.normal)),
+        λ long. absurd (omega arith),
+      ),
     )
 
 pub check_meant-returns : goal.check_meant-returns
@@ -64,7 +64,7 @@ check_meant-returns t c =
 
 pub check_sheets-check_meant-requires : goal.check_sheets-check_meant-requires
 check_sheets-check_meant-requires t c =
-    let two = c.decreases in (omega (arith, two), record { given = c.requires; lent = λ long. (refl, refl) })
+    let two = c.decreases in (omega (arith, two), (c.requires, λ long. (refl, refl)))
 
 pub check_sheets-returns : goal.check_sheets-returns
 check_sheets-returns t c = c.check_meant.ensures

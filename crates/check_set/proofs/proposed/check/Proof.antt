@@ -14,72 +14,46 @@ use Rattle.check_set.proofs.Laws.Check.{clausable, checked_refused, read-checkin
 use Rattle.check_set.proofs.proposed.check.Statement.{statement}
 use Rattle.check_set.proofs.proposed.check.Tie as tie
 
--- the entry, from where both were read; the slices' elements are bytes
-abbrev shared_of : tie.After-read-inputs → tie.After-shared-slice-known2
-shared_of c =
-    let at-slice-known = c.before.before.before in
-    at-slice-known.before
+bytes-s : (c : tie.After-read_inputs-inputs) → Bytes c.args.s.now
+bytes-s c i = (c.shared_slice_known-1.given i).fits
 
-abbrev start_of : tie.After-read-inputs → tie.Start
-start_of c = (shared_of c).before.before
-
-bytes-s : (c : tie.After-read-inputs) → Bytes (start_of c).args.s.now
-bytes-s c i = ((shared_of c).before.shared-slice-known.given i).fits
-
-bytes-k : (c : tie.After-read-inputs) → Bytes (start_of c).args.k.now
-bytes-k c i = ((shared_of c).shared-slice-known2.given i).fits
-
-abbrev read_of : tie.After-known-told2 → tie.After-read-inputs
-read_of c =
-    let at-match = c.before.before in
-    at-match.before
+bytes-k : (c : tie.After-read_inputs-inputs) → Bytes c.args.k.now
+bytes-k c i = (c.shared_slice_known-2-1.given i).fits
 
 -- both were read, the slice has the program's records, and there is room for their clauses
-given : (c : tie.After-known-told2) → (let a = (start_of (read_of c)).args in
-    Inputs a.lim a.lim.checked a.s.now a.k.now c.before.inputs2.given.0.0 c.before.inputs2.given.0.1.0)
+given : (c : tie.In-Read) → (let a = c.args in
+    Inputs a.lim a.lim.checked a.s.now a.k.now c.in-Read.field-0 c.in-Read.n)
 given c =
-    let a = (start_of (read_of c)).args in
-    inputs_read a.lim a.lim.checked a.s.now a.k.now _ _ (sym (read_of c).read-inputs.ensures ∙ c.before.inputs2.given.1)
+    let a = c.args in
+    inputs_read a.lim a.lim.checked a.s.now a.k.now _ _ (sym c.read_inputs-inputs.ensures ∙ c.in-Read.is)
 
-same : (c : tie.After-known-told2) → (start_of (read_of c)).args.s.now ≡ encoded_program (expanded (given c).file)
+same : (c : tie.In-Read) → c.args.s.now ≡ encoded_program (expanded (given c).file)
 same c =
-    let start = start_of (read_of c) in
-    let a = start.args in
-    form-unsheeted a.lim a.s.now (given c).file (bytes-s (read_of c)) (given c).holds _ (given c).held start.pre.1
+    let a = c.args in
+    form-unsheeted a.lim a.s.now (given c).file (bytes-s c.before) (given c).holds _ (given c).held c.requires.1
 
-room : (c : tie.After-known-told2)
-    → Clausable (length (start_of (read_of c)).args.bodies.now) (length (start_of (read_of c)).args.heads.now) (expanded (given c).file)
+room : (c : tie.In-Read)
+    → Clausable (length c.args.bodies.now) (length c.args.heads.now) (expanded (given c).file)
 room c =
-    let start = start_of (read_of c) in
-    let a = start.args in
-    clausable a.lim start.pre.0 (expanded (given c).file) (items-expanded a.lim a.s.now (given c).file (bytes-s (read_of c)) (given c).holds)
+    let a = c.args in
+    clausable a.lim c.requires.0 (expanded (given c).file) (items-expanded a.lim a.s.now (given c).file (bytes-s c.before) (given c).holds)
 
-check-program-requires : tie.Need-check-program-requires
+check-program-requires : tie.Need-check_program-requires
 check-program-requires c κs =
-    let at_told = c.before.before.before in
-    let at_read = read_of at_told in
-    let start = start_of at_read in
-    let a = start.args in
-    read-checking a.lim a.s.now a.k.now a.out.now start.pre.0.checked (given at_told) (bytes-k at_read) a.s.now (same at_told)
-    (room at_told)
+    let a = c.args in
+    read-checking a.lim a.s.now a.k.now a.out.now c.requires.0.checked (given c.before.before.before) (bytes-k c.before.before.before.before) a.s.now (same c.before.before.before)
+    (room c.before.before.before)
 
-returns : tie.Need-returns
+returns : tie.Need-returns-in-Refused
 returns c =
-    let at-refused = c.before in
-    let at_read = at-refused.before.before in
-    let a = (start_of at_read).args in
-    checked_refused a.lim a.s.now a.k.now a.out.now (sym at_read.read-inputs.ensures ∙ at-refused.inputs.given.1)
+    let a = c.args in
+    checked_refused a.lim a.s.now a.k.now a.out.now (sym c.read_inputs-inputs.ensures ∙ c.in-Refused.is)
 
-returns-2 : tie.Need-returns-2
+returns-2 : tie.Need-returns-in-Read
 returns-2 c =
-    let at-heads = c.before.before.before in
-    let at-check = at-heads.before.before.before in
-    let at_told = at-check.before.before.before.before in
-    let at_read = read_of at_told in
-    let start = start_of at_read in
-    let a = start.args in
-    read-met a.lim a.s.now a.k.now a.out.now start.pre.0.checked (given at_told) (bytes-k at_read) a.s.now (same at_told)
-    (room at_told) at-check.check-program.ensures
+    let a = c.args in
+    read-met a.lim a.s.now a.k.now a.out.now c.requires.0.checked (given c.before.before.before.before.before.before.before.before.before.before) (bytes-k c.before.before.before.before.before.before.before.before.before.before.before) a.s.now (same c.before.before.before.before.before.before.before.before.before.before)
+    (room c.before.before.before.before.before.before.before.before.before.before) c.check_program.ensures
 
 pub check_spec : {M : Type 1} → statement M
 check_spec =

@@ -6,17 +6,12 @@ use Rattle.check_set.proofs.proposed.check_plain.Statement.{statement}
 use Rattle.check_set.proofs.proposed.check_plain.Tie as tie
 
 check-requires : tie.Need-check-requires
-check-requires c κs = checkable-plain c.before.before.before.limits.ensures
+check-requires c κs = checkable-plain c.limits.ensures
 
 returns : tie.Need-returns
 returns c =
-    let at-bodies2 = c.before.before.before in
-    let at-check = at-bodies2.before in
-    let at-bodies = at-check.before.before.before in
-    let at-limits = at-bodies.before in
-    let at-shared-slice-known = at-limits.before.before.before in
-    let a = at-shared-slice-known.before.args in
-    checked-same a.s.now a.k.now a.out.now at-limits.limits.ensures at-check.check.ensures
+    let a = c.args in
+    checked-same a.s.now a.k.now a.out.now c.limits.ensures c.check.ensures
 
 pub check_plain_spec : {M : Type 1} → statement M
 check_plain_spec =

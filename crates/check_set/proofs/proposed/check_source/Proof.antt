@@ -5,18 +5,13 @@ use Rattle.check_set.proofs.Laws.Forms.{checkable-source, checked-same}
 use Rattle.check_set.proofs.proposed.check_source.Statement.{statement}
 use Rattle.check_set.proofs.proposed.check_source.Tie as tie
 
-check-file-requires : tie.Need-check-file-requires
-check-file-requires c κs = checkable-source c.before.before.before.limits.ensures
+check-file-requires : tie.Need-check_file-requires
+check-file-requires c κs = checkable-source c.limits.ensures
 
 returns : tie.Need-returns
 returns c =
-    let at-bodies2 = c.before.before.before in
-    let at-check = at-bodies2.before in
-    let at-bodies = at-check.before.before.before in
-    let at-limits = at-bodies.before in
-    let at-shared-slice-known = at-limits.before.before.before in
-    let a = at-shared-slice-known.before.args in
-    checked-same a.s.now a.k.now a.out.now at-limits.limits.ensures at-check.check-file.ensures
+    let a = c.args in
+    checked-same a.s.now a.k.now a.out.now c.limits.ensures c.check_file.ensures
 
 pub check_source_spec : {M : Type 1} → statement M
 check_source_spec =
