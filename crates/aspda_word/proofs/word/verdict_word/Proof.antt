@@ -8,23 +8,23 @@ use Rattle.aspda_word.specs.Code.{ShortVerdict}
 use Rattle.aspda_word.proofs.word.verdict_word.Statement.{statement}
 use Rattle.aspda_word.proofs.word.verdict_word.Tie as tie
 
-add-result : tie.Need-overflow-add-result
-add-result c = omega (arith, subst ShortVerdict c.before.v.given.1 c.before.before.before.requires)
+add-result : tie.Need-overflow_add-result
+add-result c = omega (arith, subst ShortVerdict c.in-Clash.is c.requires)
 
-add-result-3 : tie.Need-overflow-add-result-3
-add-result-3 c = omega (arith, subst ShortVerdict c.before.v3.given.1 c.before.before.before.requires)
+add-result-3 : tie.Need-overflow_add-result-in-Smaller
+add-result-3 c = omega (arith, subst ShortVerdict c.in-Smaller.is c.requires)
 
-returns : tie.Need-returns
-returns c = sym (ap verdict_word c.before.v.given.1)
+returns : tie.Need-returns-in-Clash
+returns c = sym (ap verdict_word c.in-Clash.is)
 
-returns-2 : tie.Need-returns-2
-returns-2 c = sym (ap verdict_word c.before.before.v2.given.1)
+returns-2 : tie.Need-returns-in-Broken
+returns-2 c = sym (ap verdict_word c.in-Broken.is)
 
-returns-3 : tie.Need-returns-3
-returns-3 c = sym (ap verdict_word c.before.v3.given.1)
+returns-3 : tie.Need-returns-in-Smaller
+returns-3 c = sym (ap verdict_word c.in-Smaller.is)
 
-returns-4 : tie.Need-returns-4
-returns-4 c = sym (ap verdict_word c.enum_told.given.1)
+returns-4 : tie.Need-returns-in-Yes
+returns-4 c = sym (ap verdict_word c.in-Yes.is)
 
 pub verdict_word_spec : {M : Type 1} → statement M
 verdict_word_spec =
