@@ -1,7 +1,6 @@
 -- A run of literals: room for the first place and for those behind it; the same count told twice.
 -- Assumes nothing.
 use Prim.Native.Nat.{ℕ, ◌+◌, ◌*◌, ◌-◌, ◌<◌}
-use native.Mathlib.Omega.{arith}
 use mathlib.Core.Path.{◌≡◌, subst}
 use mathlib.Core.List.{List, ◌∷◌}
 use lib.Dec.{ltb, ltb→lt}

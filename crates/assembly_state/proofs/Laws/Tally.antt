@@ -13,7 +13,6 @@ use borrow.Author.Tests.{ltb-true, ltb-false, leb-true, le-leb, lt-leb, ne_eqb}
 use Rattle.literal.specs.declared.Limits.{Limits}
 use Rattle.semantics.specs.Set.{each_of}
 use Rattle.assembly.specs.State.{Shape, keeps_shape, shape_at, shapes_at, clear_at}
-use Rattle.assembly_state.specs.declared.Tally.{Tally}
 use Rattle.assembly_state.specs.Code.{larger, heads_of, body_of, within, clear_behind, Tallied}
 
 -- the larger of two is at most k where both are

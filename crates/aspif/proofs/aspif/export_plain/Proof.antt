@@ -9,14 +9,11 @@ use Rattle.aspif.proofs.aspif.export_plain.Statement.{statement}
 use Rattle.aspif.proofs.aspif.export_plain.Tie as tie
 
 export-requires : tie.Need-export-requires
-export-requires c κs = subst Exportable (sym c.before.limits.ensures) exportable-plain
+export-requires c κs = subst Exportable (sym c.limits.ensures) exportable-plain
 
 returns : tie.Need-returns
 returns c =
-    let at-export = c.before.before in
-    let at-limits = at-export.before.before in
-    let start = at-limits.before.before.before in
-    meets-same at-limits.limits.result plain start.args.s.now start.args.out.now at-limits.limits.ensures at-export.export.ensures
+    meets-same c.limits.result plain c.args.s.now c.args.out.now c.limits.ensures c.export.ensures
 
 pub export_plain_spec : {M : Type 1} → statement M
 export_plain_spec = tie.close (tie.spec (λ c κs. search rules) export-requires (λ c. search rules) returns)

@@ -15,78 +15,65 @@ use Rattle.aspif.proofs.Laws.Pass.{next-readable, Measured, measured-start, meas
 use Rattle.aspif.proofs.pass.measure_rules.Statement.{statement}
 use Rattle.aspif.proofs.pass.measure_rules.Tie as tie
 
-abbrev invariant-loop : tie.invariant-loop
+abbrev invariant-loop : tie.invariant-loop-at
 invariant-loop s bits counts at₀ total₀ at total = Pass Numberable s at (Measured bits at total)
 
-abbrev decreases-loop : tie.decreases-loop
+abbrev decreases-loop : tie.decreases-loop-at
 decreases-loop s bits counts at₀ total₀ at total = length s - at
 
--- the entry; the program, and the part of it that is left
-abbrev start_of : tie.At-loop invariant-loop decreases-loop → tie.Start invariant-loop decreases-loop
-start_of c = c.before.before.before.before
+abbrev program : tie.At-loop-at invariant-loop decreases-loop → List ℕ
+program c = c.args.s.now
 
-abbrev program : tie.At-loop invariant-loop decreases-loop → List ℕ
-program c = (start_of c).args.s.now
+abbrev marks : tie.At-loop-at invariant-loop decreases-loop → List ℕ
+marks c = c.args.bits.now
 
-abbrev marks : tie.At-loop invariant-loop decreases-loop → List ℕ
-marks c = (start_of c).args.bits.now
+abbrev held : (c : tie.At-loop-at invariant-loop decreases-loop) → Holds Numberable (program c)
+held c = c.requires.0
 
-abbrev held : (c : tie.At-loop invariant-loop decreases-loop) → Holds Numberable (program c)
-held c = (start_of c).requires.0
-
-abbrev part : tie.At-loop invariant-loop decreases-loop → List ℕ
-part c = take (length (program c) - c.loop.at) (drop c.loop.at (program c))
+abbrev part : tie.At-loop-at invariant-loop decreases-loop → List ℕ
+part c = take (length (program c) - c.loop-at.at) (drop c.loop-at.at (program c))
 
 -- where the loop is
-here : (c : tie.At-loop invariant-loop decreases-loop) → Along (program c) (held c).program c.loop.at (Measured (marks c) c.loop.at c.loop.total)
-here c = c.loop.invariant (held c)
+here : (c : tie.At-loop-at invariant-loop decreases-loop) → Along (program c) (held c).program c.loop-at.at (Measured (marks c) c.loop-at.at c.loop-at.total)
+here c = c.loop-at.invariant (held c)
 
--- the next rule's record, where there is no E
-abbrev loop-of : tie.After-part invariant-loop decreases-loop → tie.At-loop invariant-loop decreases-loop
-loop-of c = c.before.before.before
+next : (c : tie.After-part-1 invariant-loop decreases-loop)
+    → More (program c.before.before.before) (held c.before.before.before).program (here c.before.before.before).gone c.loop-at.at (part c.before.before.before)
+next c = walk_more (here c.before.before.before).walk c.loop-at-test.true (part c.before.before.before) (part_to_end (program c.before.before.before) c.loop-at.at)
 
-next : (c : tie.After-part invariant-loop decreases-loop)
-    → More (program (loop-of c)) (held (loop-of c)).program (here (loop-of c)).gone (loop-of c).loop.at (part (loop-of c))
-next c = walk_more (here (loop-of c)).walk c.before.if1.true (part (loop-of c)) (part_to_end (program (loop-of c)) (loop-of c).loop.at)
-
-opens : (c : tie.At-loop invariant-loop decreases-loop) → c.loop.at + 4 ≤ length (program c)
+opens : (c : tie.At-loop-at invariant-loop decreases-loop) → c.loop-at.at + 4 ≤ length (program c)
 opens c = walk-open (here c).walk
 
-measure-rule-requires : tie.Need-measure-rule-requires invariant-loop decreases-loop
+measure-rule-requires : tie.Need-measure_rule-total-requires invariant-loop decreases-loop
 measure-rule-requires c κs =
-    let at-loop = loop-of c in
-    let ready = (start_of at-loop).pre.1 in
-    (next-readable (marks at-loop) (next c) (start_of at-loop).args.counts.now (held at-loop).asked.placed ready, ready)
+    let ready = c.requires.1 in
+    (next-readable (marks c.before.before.before) (next c) c.args.counts.now (held c.before.before.before).asked.placed ready, ready)
 
 -- a program is short
-short : (c : tie.At-loop invariant-loop decreases-loop) → length (program c) ≤ 500000
+short : (c : tie.At-loop-at invariant-loop decreases-loop) → length (program c) ≤ 500000
 short c = omega (arith, ap length (held c).bytes, (held c).asked.short)
 
-add_total : tie.Need-overflow-add-total invariant-loop decreases-loop
+add_total : tie.Need-overflow_add-total invariant-loop decreases-loop
 add_total c =
-    let at-loop = loop-of c.before in
-    omega (arith, (here at-loop).made.short, c.measure-rule.ensures.short, (next c.before).fits, short at-loop)
+    omega (arith, (here c.before.before.before.before).made.short, c.measure_rule-total.ensures.short, (next c.before).fits, short c.before.before.before.before)
 
-loop-again : tie.Need-loop-preserved invariant-loop decreases-loop
+loop-again : tie.Need-loop-at-preserved invariant-loop decreases-loop
 loop-again c =
-    let at_part = c.before.before in
-    let at-loop = loop-of at_part in
-    let long = c.before.measure-rule in
-    let l = at-loop.loop in
-    pass-next l.inv at_part.before.if1.true (part at-loop) (part_to_end (program at-loop) l.at) _ c.record-size.ensures
-    (Measured (marks at-loop) (l.at + c.record-size.result) (l.total + long.result))
-    (λ w a m. measured-next m a.made long.result _ long.ensures c.record-size.ensures)
+    let long = c.measure_rule-total in
+    let l = c.loop-at in
+    pass-next l.invariant c.loop-at-test.true (part c.before.before.before.before.before) (part_to_end (program c.before.before.before.before.before) l.at) _ c.record_size-at.ensures
+    (Measured (marks c.before.before.before.before.before) (l.at + c.record_size-at.result) (l.total + long.result))
+    (λ w a m. measured-next m a.made long.result _ long.ensures c.record_size-at.ensures)
 
 returns : tie.Need-returns invariant-loop decreases-loop
 returns c w =
-    let at-loop = c.before.before in
-    let made = along-end (at-loop.loop.invariant w) c.if1.false in
-    record { long = made.long; short = omega (arith, made.short, opens at-loop) }
+    let made = along-end (c.loop-at.invariant w) c.loop-at-test.false in
+    record { long = made.long; short = omega (arith, made.short, opens c.before.before) }
 
 pub measure_rules_spec : {M : Type 1} → statement M
 measure_rules_spec =
-    tie.close (tie.spec invariant-loop decreases-loop (λ c. pass-start c.before.before.before.args.s.now _ (measured-start c.before.before.before.args.bits.now))
+    tie.close (tie.spec invariant-loop decreases-loop (λ c. pass-start c.args.s.now _ (measured-start c.args.bits.now))
     (λ c. omega (arith, opens c.before)) (λ c. omega (arith, opens c.before.before)) (λ c. omega (arith, opens c.before.before))
     (λ c. search rules) measure-rule-requires add_total (λ c κs. omega (arith, (next c.before).whole))
-    (λ c. omega (arith, (next c.before.before).fits, c.record-size.ensures))
-    (λ c. omega (arith, (next c.before.before).fits, c.record-size.ensures)) loop-again returns)
+    (λ c. omega (arith, (next c.before.before).fits, c.record_size-at.ensures))
+    (λ c. omega (arith, (next c.before.before).fits, c.record_size-at.ensures)) loop-again returns)

@@ -7,10 +7,8 @@ use Rattle.aspif_names.proofs.names.measure_name.Tie as tie
 
 returns : tie.Need-returns
 returns c =
-    let at-figures = c.before in
-    let start = at-figures.before in
-    let a = start.args in
-    name-measured a.negated a.a a.n _ _ start.requires at-figures.count-figures.ensures c.measure-field.ensures
+    let a = c.args in
+    name-measured a.negated a.a a.n _ _ c.requires c.count_figures.ensures c.measure_field.ensures
 
 pub measure_name_spec : {M : Type 1} → statement M
 measure_name_spec =

@@ -5,13 +5,13 @@ use Rattle.aspif_names.specs.Code.{row_from}
 use Rattle.aspif_names.proofs.names.pick_row.Statement.{statement}
 use Rattle.aspif_names.proofs.names.pick_row.Tie as tie
 
-returns : tie.Need-returns
+returns : tie.Need-returns-then-negated
 unfolding row_from
-returns c = ap row_from (sym c.if1.true)
+returns c = ap row_from (sym c.if-negated.true)
 
-returns-2 : tie.Need-returns-2
+returns-2 : tie.Need-returns
 unfolding row_from
-returns-2 c = ap row_from (sym c.if1.false)
+returns-2 c = ap row_from (sym c.if-negated.false)
 
 pub pick_row_spec : {M : Type 1} → statement M
 pick_row_spec = tie.close (tie.spec returns returns-2)

@@ -12,51 +12,41 @@ use Rattle.aspif_names.proofs.names.write_name_at.Statement.{statement}
 use Rattle.aspif_names.proofs.names.write_name_at.Tie as tie
 
 -- the place is one of the first two rows'
-within : (c : tie.After-pick-row) → c.pick-row.result + c.before.before.before.before.args.a < 2 * row_places
+within : (c : tie.After-pick_row) → c.pick_row.result + c.args.a < 2 * row_places
 within c =
-    let start = c.before.before.before.before in
-    omega (arith, c.pick-row.ensures, row-most start.args.negated, start.requires.0)
+    omega (arith, c.pick_row.ensures, row-most c.args.negated, c.requires.0)
 
-number-at-requires : tie.Need-number-at-requires
+number-at-requires : tie.Need-number_at-n-requires
 number-at-requires c κs =
-    let at_row = c.before.before in
-    let ready = at_row.before.before.before.before.requires.1.0 in
-    (omega (arith, within at_row, ready.whole), (omega (arith, ready.whole), ready.summed))
+    let ready = c.requires.1.0 in
+    (omega (arith, within c.before.before, ready.whole), (omega (arith, ready.whole), ready.summed))
 
--- where the number was looked up, the place has its line
-abbrev row_of : tie.After-number-at → tie.After-pick-row
-row_of c = c.before.before.before
-
-some : (c : tie.After-number-at)
-    → name_at (row_of c).before.before.before.before.args.bits.now (row_of c).before.before.before.before.args.negated
-    (row_of c).before.before.before.before.args.a
-    ≡ name_line (row_of c).before.before.before.before.args.negated (row_of c).before.before.before.before.args.a c.number_at.result
+some : (c : tie.After-number_at-n)
+    → name_at c.args.bits.now c.args.negated
+    c.args.a
+    ≡ name_line c.args.negated c.args.a c.number_at-n.result
 some c =
-    let at-if = c.before in
-    let at_row = at-if.before.before in
-    let a = at_row.before.before.before.before.args in
-    name-some a.bits.now a.negated a.a (at_row.pick-row.result + a.a) _ (omega (arith, at_row.pick-row.ensures))
-    (sym at-if.before.is-marked.ensures ∙ at-if.if1.true) c.number_at.ensures.0
+    let a = c.args in
+    name-some a.bits.now a.negated a.a (c.pick_row.result + a.a) _ (omega (arith, c.pick_row.ensures))
+    (sym c.is_marked.ensures ∙ c.if-is_marked.true) c.number_at-n.ensures.0
 
-write-name-requires : tie.Need-write-name-requires
+write-name-requires : tie.Need-write_name-requires
 write-name-requires c κs =
-    let start = (row_of c.before).before.before.before.before in
-    (start.pre.0, room_by (some c.before) start.args.to _ start.pre.1.1)
+    (c.requires.0, room_by (some c.before) c.args.to _ c.requires.1.1)
 
-returns : tie.Need-returns
-returns c = let at-write = c.before.before in wrote_by (some at-write.before.before) at-write.write-name.ensures
+returns : tie.Need-returns-then-is_marked
+returns c = wrote_by (some c.before.before.before.before) c.write_name.ensures
 
-returns-2 : tie.Need-returns-2
+returns-2 : tie.Need-returns
 returns-2 c =
-    let at_row = c.before.before in
-    let a = at_row.before.before.before.before.args in
+    let a = c.args in
     wrote_none
-    (name-none a.bits.now a.negated a.a (at_row.pick-row.result + a.a) (omega (arith, at_row.pick-row.ensures))
-    (sym c.before.is-marked.ensures ∙ c.if1.false))
+    (name-none a.bits.now a.negated a.a (c.pick_row.result + a.a) (omega (arith, c.pick_row.ensures))
+    (sym c.is_marked.ensures ∙ c.if-is_marked.false))
     a.out.now a.to
 
 pub write_name_at_spec : {M : Type 1} → statement M
 write_name_at_spec =
     tie.close (tie.spec (λ c κs. search rules) (λ c. omega (arith, within c))
-    (λ c κs. omega (arith, within c, c.before.before.before.before.requires.1.0.whole)) number-at-requires write-name-requires
+    (λ c κs. omega (arith, within c, c.requires.1.0.whole)) number-at-requires write-name-requires
     (λ c. search rules) returns returns-2)

@@ -8,41 +8,34 @@ use Rattle.aspif_names.proofs.Laws.Places.{Filling, filling-start, filling-room,
 use Rattle.aspif_names.proofs.names.write_names.Statement.{statement}
 use Rattle.aspif_names.proofs.names.write_names.Tie as tie
 
-abbrev invariant-loop : tie.invariant-loop
+abbrev invariant-loop : tie.invariant-loop-left
 invariant-loop bits counts negated out₀ to a₀ left₀ next₀ out a left next = Filling (name_at bits negated) (name_lines bits negated) out₀ out to a left next
 
-abbrev decreases-loop : tie.decreases-loop
+abbrev decreases-loop : tie.decreases-loop-left
 decreases-loop bits counts negated out₀ to a₀ left₀ next₀ out a left next = left
 
-loop-holds : tie.Need-loop-init invariant-loop decreases-loop
+loop-holds : tie.Need-loop-left-init invariant-loop decreases-loop
 loop-holds c =
-    let start = c.before.before.before in
-    let a = start.args in
+    let a = c.args in
     filling-start (name_at a.bits.now a.negated) (name_lines a.bits.now a.negated) a.out.now a.to
-    (names-places a.bits.now a.negated) start.requires.1
+    (names-places a.bits.now a.negated) c.requires.1
 
-write-name-at-requires : tie.Need-write-name-at-requires invariant-loop decreases-loop
+write-name-at-requires : tie.Need-write_name_at-next-requires invariant-loop decreases-loop
 write-name-at-requires c κs =
-    let at_test = c.before in
-    let at-loop = at_test.before in
-    let more = at_test.loop-test.true in
-    let w = at-loop.loop.invariant in
-    (omega (arith, w.row, more), (at-loop.before.before.before.before.requires.0, filling-room w more))
+    let more = c.loop-left-test.true in
+    let w = c.loop-left.invariant in
+    (omega (arith, w.row, more), (c.requires.0, filling-room w more))
 
--- the loop, where a place was written
-abbrev loop-of : tie.After-slice-known2 invariant-loop decreases-loop → tie.At-loop invariant-loop decreases-loop
-loop-of c = c.before.before.before.before.before
+more : (c : tie.After-slice_known-in-loop-left-1 invariant-loop decreases-loop) → 0 < c.loop-left.left
+more c = c.loop-left-test.true
 
-more : (c : tie.After-slice-known2 invariant-loop decreases-loop) → 0 < (loop-of c).loop.left
-more c = c.before.before.before.before.loop-test.true
-
-loop-again : tie.Need-loop-preserved invariant-loop decreases-loop
-loop-again c = filling-next (loop-of c).loop.invariant (more c) c.before.before.write-name-at.ensures
+loop-again : tie.Need-loop-left-preserved invariant-loop decreases-loop
+loop-again c = filling-next c.loop-left.invariant (more c) c.write_name_at-next.ensures
 
 returns : tie.Need-returns invariant-loop decreases-loop
-returns c = filling-end c.before.loop.invariant c.loop-test.false
+returns c = filling-end c.loop-left.invariant c.loop-left-test.false
 
 pub write_names_spec : {M : Type 1} → statement M
 write_names_spec =
-    tie.close (tie.spec invariant-loop decreases-loop loop-holds write-name-at-requires (λ c. omega (arith, (loop-of c).loop.invariant.row))
-    (λ c. omega (arith, more c)) (λ c. omega (arith, more c)) loop-again (λ c. c.before.loop.invariant.writing.same) returns)
+    tie.close (tie.spec invariant-loop decreases-loop loop-holds write-name-at-requires (λ c. omega (arith, c.loop-left.invariant.row))
+    (λ c. omega (arith, more c)) (λ c. omega (arith, more c)) loop-again (λ c. c.loop-left.invariant.writing.same) returns)

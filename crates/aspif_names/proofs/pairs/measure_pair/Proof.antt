@@ -7,9 +7,8 @@ use Rattle.aspif_names.proofs.pairs.measure_pair.Tie as tie
 
 returns : tie.Need-returns
 returns c =
-    let at_first = c.before in
-    let a = at_first.before.args in
-    pair-measured a.n a.m _ _ at_first.measure-field.ensures c.measure-field2.ensures
+    let a = c.args in
+    pair-measured a.n a.m _ _ c.measure_field.ensures c.measure_field-2.ensures
 
 pub measure_pair_spec : {M : Type 1} → statement M
 measure_pair_spec =

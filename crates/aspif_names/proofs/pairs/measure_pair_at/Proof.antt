@@ -7,23 +7,18 @@ use Rattle.aspif_names.proofs.Laws.Places.{long-by, long-none}
 use Rattle.aspif_names.proofs.pairs.measure_pair_at.Statement.{statement}
 use Rattle.aspif_names.proofs.pairs.measure_pair_at.Tie as tie
 
-returns : tie.Need-returns
+returns : tie.Need-returns-then-is_pair
 returns c =
-    let at_second = c.before in
-    let at_first = at_second.before in
-    let at-if = at_first.before in
-    let at_pair = at-if.before in
-    let a = at_pair.before.before.before.args in
+    let a = c.args in
     long-by
-    (pair-some a.bits.now a.a _ _ (sym at_pair.is-pair.ensures ∙ at-if.if1.true) at_first.number_at.ensures.0
-    at_second.number-at2.ensures.0)
-    c.measure-pair.ensures
+    (pair-some a.bits.now a.a _ _ (sym c.is_pair.ensures ∙ c.if-is_pair.true) c.number_at.ensures.0
+    c.number_at-then-is_pair.ensures.0)
+    c.measure_pair.ensures
 
-returns-2 : tie.Need-returns-2
+returns-2 : tie.Need-returns
 returns-2 c =
-    let at_pair = c.before in
-    let a = at_pair.before.before.before.args in
-    long-none (pair-none a.bits.now a.a (sym at_pair.is-pair.ensures ∙ c.if1.false))
+    let a = c.args in
+    long-none (pair-none a.bits.now a.a (sym c.is_pair.ensures ∙ c.if-is_pair.false))
 
 pub measure_pair_at_spec : {M : Type 1} → statement M
 measure_pair_at_spec =

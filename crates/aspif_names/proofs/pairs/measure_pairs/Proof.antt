@@ -7,32 +7,31 @@ use Rattle.aspif_names.proofs.Laws.Places.{Measuring, measuring-start, measuring
 use Rattle.aspif_names.proofs.pairs.measure_pairs.Statement.{statement}
 use Rattle.aspif_names.proofs.pairs.measure_pairs.Tie as tie
 
-abbrev invariant-loop : tie.invariant-loop
+abbrev invariant-loop : tie.invariant-loop-left
 invariant-loop bits counts a₀ left₀ total₀ a left total = Measuring (pair_at bits) (pair_lines bits) a left total
 
-abbrev decreases-loop : tie.decreases-loop
+abbrev decreases-loop : tie.decreases-loop-left
 decreases-loop bits counts a₀ left₀ total₀ a left total = left
 
-loop-holds : tie.Need-loop-init invariant-loop decreases-loop
+loop-holds : tie.Need-loop-left-init invariant-loop decreases-loop
 loop-holds c =
-    let a = c.before.before.args in
+    let a = c.args in
     measuring-start (pair_at a.bits.now) (pair_lines a.bits.now) (pairs-places a.bits.now)
 
-measure-pair-at-requires : tie.Need-measure-pair-at-requires invariant-loop decreases-loop
+measure-pair-at-requires : tie.Need-measure_pair_at-total-requires invariant-loop decreases-loop
 measure-pair-at-requires c κs =
-    let at-loop = c.before in
-    (omega (arith, at-loop.loop.invariant.row, c.loop-test.true), at-loop.before.before.before.requires)
+    (omega (arith, c.loop-left.invariant.row, c.loop-left-test.true), c.requires)
 
-add_total : tie.Need-overflow-add-total invariant-loop decreases-loop
-add_total c = omega (arith, c.before.before.loop.invariant.short, c.measure-pair-at.ensures.short, c.before.loop-test.true)
+add_total : tie.Need-overflow_add-total invariant-loop decreases-loop
+add_total c = omega (arith, c.loop-left.invariant.short, c.measure_pair_at-total.ensures.short, c.loop-left-test.true)
 
-loop-again : tie.Need-loop-preserved invariant-loop decreases-loop
-loop-again c = measuring-next c.before.before.loop.invariant c.before.loop-test.true _ c.measure-pair-at.ensures
+loop-again : tie.Need-loop-left-preserved invariant-loop decreases-loop
+loop-again c = measuring-next c.loop-left.invariant c.loop-left-test.true _ c.measure_pair_at-total.ensures
 
 returns : tie.Need-returns invariant-loop decreases-loop
-returns c = measuring-end c.before.loop.invariant c.loop-test.false
+returns c = measuring-end c.loop-left.invariant c.loop-left-test.false
 
 pub measure_pairs_spec : {M : Type 1} → statement M
 measure_pairs_spec =
-    tie.close (tie.spec invariant-loop decreases-loop loop-holds measure-pair-at-requires add_total (λ c. omega (arith, c.before.before.loop.invariant.row))
-    (λ c. omega (arith, c.before.loop-test.true)) (λ c. omega (arith, c.before.loop-test.true)) loop-again returns)
+    tie.close (tie.spec invariant-loop decreases-loop loop-holds measure-pair-at-requires add_total (λ c. omega (arith, c.loop-left.invariant.row))
+    (λ c. omega (arith, c.loop-left-test.true)) (λ c. omega (arith, c.loop-left-test.true)) loop-again returns)

@@ -12,69 +12,41 @@ use Rattle.aspif_names.proofs.Laws.Pairs.{pair-length, pair-wrote}
 use Rattle.aspif_names.proofs.pairs.write_pair.Statement.{statement}
 use Rattle.aspif_names.proofs.pairs.write_pair.Tie as tie
 
--- where the first byte was written, from behind each later write
-abbrev from-2 : tie.After-put-word → tie.After-put-byte
-from-2 c = c.before.before.before.before
-
-abbrev from-3 : tie.After-put-word2 → tie.After-put-byte
-from-3 c = from-2 c.before.before.before.before
-
-abbrev from-4 : tie.After-put-word3 → tie.After-put-byte
-from-4 c = from-3 c.before.before.before.before
-
-abbrev from-5 : tie.After-put-word4 → tie.After-put-byte
-from-5 c = from-4 c.before.before.before.before
-
-abbrev from-6 : tie.After-write-field → tie.After-put-byte
-from-6 c = from-5 c.before.before.before.before
-
-abbrev from-7 : tie.After-write-field2 → tie.After-put-byte
-from-7 c = from-6 c.before.before.before.before
-
 -- the length of the whole line
-long : (c : tie.After-put-byte)
-    → length (rule_line (never_both c.before.before.before.args.n c.before.before.before.args.m))
-    ≡ 10 + (length (field false c.before.before.before.args.n) + length (field false c.before.before.before.args.m))
-long c = let a = c.before.before.before.args in pair-length a.n a.m
+long : (c : tie.After-put_byte)
+    → length (rule_line (never_both c.args.n c.args.m))
+    ≡ 10 + (length (field false c.args.n) + length (field false c.args.m))
+long c = let a = c.args in pair-length a.n a.m
 
-put-byte-requires : tie.Need-put-byte-requires
-put-byte-requires c κs = let start = c.before.before in omega (arith, start.requires, pair-length start.args.n start.args.m)
+put-byte-requires : tie.Need-put_byte-requires
+put-byte-requires c κs = omega (arith, c.requires, pair-length c.args.n c.args.m)
 
-put-word-requires : tie.Need-put-word-requires
+put-word-requires : tie.Need-put_word-kind-requires
 put-word-requires c κs = omega (arith, long c.before.before.before)
 
-put-word-requires-2 : tie.Need-put-word-requires-2
-put-word-requires-2 c κs = omega (arith, long (from-2 c.before.before.before))
+put-word-requires-2 : tie.Need-put_word-heads-requires
+put-word-requires-2 c κs = omega (arith, long c.before.before.before.before.before.before.before)
 
-put-word-requires-3 : tie.Need-put-word-requires-3
-put-word-requires-3 c κs = omega (arith, long (from-3 c.before.before.before))
+put-word-requires-3 : tie.Need-put_word-weights-requires
+put-word-requires-3 c κs = omega (arith, long c.before.before.before.before.before.before.before.before.before.before.before)
 
-put-word-requires-4 : tie.Need-put-word-requires-4
-put-word-requires-4 c κs = omega (arith, long (from-4 c.before.before.before))
+put-word-requires-4 : tie.Need-put_word-count-requires
+put-word-requires-4 c κs = omega (arith, long c.before.before.before.before.before.before.before.before.before.before.before.before.before.before.before)
 
-write-field-requires : tie.Need-write-field-requires
-write-field-requires c κs = omega (arith, long (from-5 c.before.before.before))
+write-field-requires : tie.Need-write_field-first-requires
+write-field-requires c κs = omega (arith, long c.before.before.before.before.before.before.before.before.before.before.before.before.before.before.before.before.before.before.before)
 
-write-field-requires-2 : tie.Need-write-field-requires-2
-write-field-requires-2 c κs = omega (arith, long (from-6 c.before.before.before))
+write-field-requires-2 : tie.Need-write_field-second-requires
+write-field-requires-2 c κs = omega (arith, long c.before.before.before.before.before.before.before.before.before.before.before.before.before.before.before.before.before.before.before.before.before.before.before)
 
-put-end-requires : tie.Need-put-end-requires
-put-end-requires c κs = omega (arith, long (from-7 c.before.before.before))
+put-end-requires : tie.Need-put_end-requires
+put-end-requires c κs = omega (arith, long c.before.before.before.before.before.before.before.before.before.before.before.before.before.before.before.before.before.before.before.before.before.before.before.before.before.before.before)
 
 returns : tie.Need-returns
 returns c =
-    let at-end = c.before.before in
-    let at_second = at-end.before.before.before.before in
-    let at_first = at_second.before.before.before.before in
-    let at_count = at_first.before.before.before.before in
-    let at-weights = at_count.before.before.before.before in
-    let at-heads = at-weights.before.before.before.before in
-    let at-kind = at-heads.before.before.before.before in
-    let at-line = at-kind.before.before.before.before in
-    let start = at-line.before.before.before in
-    pair-wrote start.args.n start.args.m start.requires at-line.put_byte.ensures at-kind.put_word.ensures at-heads.put-word2.ensures
-    at-weights.put-word3.ensures at_count.put-word4.ensures at_first.write-field.ensures at_second.write-field2.ensures
-    at-end.put-end.ensures
+    pair-wrote c.args.n c.args.m c.requires c.put_byte.ensures c.put_word-kind.ensures c.put_word-heads.ensures
+    c.put_word-weights.ensures c.put_word-count.ensures c.write_field-first.ensures c.write_field-second.ensures
+    c.put_end.ensures
 
 pub write_pair_spec : {M : Type 1} → statement M
 write_pair_spec =

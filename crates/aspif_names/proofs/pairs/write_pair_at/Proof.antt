@@ -10,34 +10,25 @@ use Rattle.aspif_names.proofs.Laws.Places.{wrote_by, wrote_none, room_by}
 use Rattle.aspif_names.proofs.pairs.write_pair_at.Statement.{statement}
 use Rattle.aspif_names.proofs.pairs.write_pair_at.Tie as tie
 
--- where both numbers were looked up, the place has their line
-abbrev pair_of : tie.After-number-at2 → tie.After-is-pair
-pair_of c = c.before.before.before
-
-some : (c : tie.After-number-at2)
-    → pair_at (pair_of c).before.before.before.before.args.bits.now (pair_of c).before.before.before.before.args.a
-    ≡ rule_line (never_both c.before.number_at.result c.number-at2.result)
+some : (c : tie.After-number_at-m)
+    → pair_at c.args.bits.now c.args.a
+    ≡ rule_line (never_both c.number_at-n.result c.number_at-m.result)
 some c =
-    let at_first = c.before in
-    let at-if = at_first.before in
-    let at_pair = at-if.before in
-    let a = at_pair.before.before.before.before.args in
-    pair-some a.bits.now a.a _ _ (sym at_pair.is-pair.ensures ∙ at-if.if1.true) at_first.number_at.ensures.0
-    c.number-at2.ensures.0
+    let a = c.args in
+    pair-some a.bits.now a.a _ _ (sym c.is_pair.ensures ∙ c.if-is_pair.true) c.number_at-n.ensures.0
+    c.number_at-m.ensures.0
 
-write-pair-requires : tie.Need-write-pair-requires
+write-pair-requires : tie.Need-write_pair-requires
 write-pair-requires c κs =
-    let start = (pair_of c.before).before.before.before.before in
-    room_by (some c.before) start.args.to _ start.pre.1.1
+    room_by (some c.before) c.args.to _ c.requires.1.1
 
-returns : tie.Need-returns
-returns c = let at-write = c.before.before in wrote_by (some at-write.before.before) at-write.write-pair.ensures
+returns : tie.Need-returns-then-is_pair
+returns c = wrote_by (some c.before.before.before.before) c.write_pair.ensures
 
-returns-2 : tie.Need-returns-2
+returns-2 : tie.Need-returns
 returns-2 c =
-    let at_pair = c.before in
-    let a = at_pair.before.before.before.before.args in
-    wrote_none (pair-none a.bits.now a.a (sym at_pair.is-pair.ensures ∙ c.if1.false)) a.out.now a.to
+    let a = c.args in
+    wrote_none (pair-none a.bits.now a.a (sym c.is_pair.ensures ∙ c.if-is_pair.false)) a.out.now a.to
 
 pub write_pair_at_spec : {M : Type 1} → statement M
 write_pair_at_spec =

@@ -31,5 +31,5 @@ pub finish_numbers_spec : {M : Type 1} → statement M
 finish_numbers_spec =
     tie.close (tie.spec invariant-loop decreases-loop (λ c. (omega arith, finishing-start c.args.masks.now c.args.numbers.now)) (λ c. search rules)
     (λ c. search rules) (λ c. search rules) (λ c. search rules) (λ c. omega (arith, low c)) (λ c. omega (arith, low c)) (λ c. search rules)
-    (λ c. search rules) (λ c. search rules) (λ c. search rules) (λ c. (search rules, finishing-next (loop-of c).loop.invariant.1 (search rules)))
+    (λ c. search rules) (λ c. search rules) (λ c. search rules) (λ c. (search rules, finishing-next c.loop-k.invariant.1 (search rules)))
     (λ c. c.loop-k.invariant.1.same) returns)

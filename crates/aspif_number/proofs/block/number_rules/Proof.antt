@@ -64,13 +64,13 @@ gather-run-requires c κs =
 
 add-k : tie.Need-overflow_add-k invariant-loop decreases-loop
 add-k c =
-    omega (arith, few c.before.before.before.before.before.before.before, c.requires.1.1.1.1.0, c.good.1.1.1.1.0.0)
+    omega (arith, few c.before.before.before.before.before.before.before, c.requires.1.1.1.1.0)
 
 loop-again : tie.Need-loop-done-preserved invariant-loop decreases-loop
 loop-again c =
-    let kept = c.gather_run.kept.1.1.1.1.1 in
+    let kept = c.gather_run.auto in
     numbering-next c.loop-done.invariant c.requires.0 c.loop-done-test.true (here c.before.before.before.before.before.before.before.before.before.before.before.before.before.before) (told c.before.before.before.before.before.before.before.before.before.before.before.before.before.before) _ (counted c.before.before.before.before.before.before.before.before)
-    _ _ kept.0 kept.1.0 c.gather_run.ensures _ c.record_size-at.ensures
+    _ _ kept.masks kept.numbers c.gather_run.ensures _ c.record_size-at.ensures
 
 -- the arrays have room for all that was gathered
 room : (c : tie.After-loop-done invariant-loop decreases-loop)
@@ -96,7 +96,7 @@ returns c =
 
 pub number_rules_spec : {M : Type 1} → statement M
 number_rules_spec =
-    tie.close (tie.spec invariant-loop decreases-loop loop-holds (λ c. omega (arith, (next c).ranges)) (λ c. omega (arith, (next c).ranges)) (λ c. search rules)
+    tie.close (tie.spec invariant-loop decreases-loop loop-holds (λ c. omega (arith, (next c).fits)) (λ c. omega (arith, (next c).fits)) (λ c. search rules)
     (λ c. omega (arith, (next c.before.before).whole)) (λ c. omega (arith, (next c.before.before.before).whole))
     (λ c. omega (arith, (next c.before.before.before.before).whole)) (λ c κs. search rules) gather-run-requires add-k
     (λ c κs. omega (arith, (next c.before.before.before.before.before.before.before.before.before.before.before.before).whole))

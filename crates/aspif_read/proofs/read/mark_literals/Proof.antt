@@ -7,7 +7,6 @@ use mathlib.Core.Path.{◌≡◌, sym, ◌∙◌, ap}
 use mathlib.Core.Bool.{true}
 use lib.ListN.{length, drop}
 use borrow.Author.Rules.{rules}
-use borrow.Author.Tests.{not-true, not-false}
 use borrow.Author.Rules.{part_to_end}
 use Rattle.literal.specs.Literal.{decoded}
 use Rattle.literal.specs.Code.{is_valid}
@@ -15,94 +14,65 @@ use Rattle.aspif_read.proofs.Laws.Literals.{valid-placed, Marking, marking-start
 use Rattle.aspif_read.proofs.read.mark_literals.Statement.{statement}
 use Rattle.aspif_read.proofs.read.mark_literals.Tie as tie
 
-abbrev invariant-loop : tie.invariant-loop
+abbrev invariant-loop : tie.invariant-loop-left
 invariant-loop lim t count bits₀ counts₀ at₀ left₀ bits counts at left = Marking lim t count bits₀ bits counts at left
 
-abbrev decreases-loop : tie.decreases-loop
+abbrev decreases-loop : tie.decreases-loop-left
 decreases-loop lim t count bits₀ counts₀ at₀ left₀ bits counts at left = left
 
-loop-holds : tie.Need-loop-init invariant-loop decreases-loop
+loop-holds : tie.Need-loop-left-init invariant-loop decreases-loop
 loop-holds c =
-    let start = c.before.before.before in
-    let a = start.args in
-    marking-start a.lim a.t.now a.count a.bits.now a.counts.now start.requires.0 start.requires.1.1.1
+    let a = c.args in
+    marking-start a.lim a.t.now a.count a.bits.now a.counts.now c.requires.0 c.requires.1.1.1
 
--- the entry, seen from the loop; the counts are as many as came
-abbrev start_of : tie.At-loop invariant-loop decreases-loop → tie.Start invariant-loop decreases-loop
-start_of c =
-    let at-slice-known = c.before.before in
-    at-slice-known.before.before
+same-counts : (c : tie.At-loop-left invariant-loop decreases-loop) → length c.loop-left.counts ≡ length c.args.counts.now
+same-counts c = let m = c.loop-left.invariant in m.tallied.same ∙ m.same ∙ sym c.requires.1.1.1.same
 
-same-counts : (c : tie.At-loop invariant-loop decreases-loop) → length c.loop.counts ≡ length (start_of c).args.counts.now
-same-counts c = let m = c.loop.invariant in m.tallied.same ∙ m.same ∙ sym (start_of c).requires.1.1.1.same
-
--- whether the next literal is right
-abbrev loop-of : tie.After-is-literal invariant-loop decreases-loop → tie.At-loop invariant-loop decreases-loop
-loop-of c = c.before.before.before
-
-tested : (c : tie.After-is-literal invariant-loop decreases-loop)
-    → is_valid (decoded (start_of (loop-of c)).args.lim (drop (loop-of c).loop.at (start_of (loop-of c)).args.t.now)) ≡ c.is-literal.result
+tested : (c : tie.After-is_literal invariant-loop decreases-loop)
+    → is_valid (decoded c.args.lim (drop c.loop-left.at c.args.t.now)) ≡ c.is_literal.result
 tested c =
-    let at-loop = loop-of c in
-    let a = (start_of at-loop).args in
-    ap (λ bs. is_valid (decoded a.lim bs)) (sym (part_to_end a.t.now at-loop.loop.at)) ∙ sym c.is-literal.ensures
+    let a = c.args in
+    ap (λ bs. is_valid (decoded a.lim bs)) (sym (part_to_end a.t.now c.loop-left.at)) ∙ sym c.is_literal.ensures
 
-returns : tie.Need-returns invariant-loop decreases-loop
+returns : tie.Need-returns-then-not-is_literal invariant-loop decreases-loop
 returns c =
-    let at-is-literal = c.before in
-    let m = (loop-of at-is-literal).loop.invariant in (
-      sym (marking-wrong m at-is-literal.before.before.loop-test.true (tested at-is-literal ∙ not-true _ c.if1.true)),
+    let m = c.loop-left.invariant in (
+      sym (marking-wrong m c.loop-left-test.true (tested c.before ∙ c.if-not-is_literal.true)),
       ((λ right. let z : ◌≡◌ {A = ℕ} 0 1 = cc in absurd (omega (arith, z))), m.tallied),
     )
 
-place-at-requires : tie.Need-place-at-requires invariant-loop decreases-loop
+place-at-requires : tie.Need-place_at-i-requires invariant-loop decreases-loop
 place-at-requires c κs =
-    let at-is-literal = c.before in
-    omega (arith, (loop-of at-is-literal).loop.invariant.fits, at-is-literal.before.before.loop-test.true)
+    omega (arith, c.loop-left.invariant.fits, c.loop-left-test.true)
 
-right : (c : tie.After-place-at invariant-loop decreases-loop)
-    → is_valid (decoded (start_of (loop-of c.before.before)).args.lim
-    (drop (loop-of c.before.before).loop.at (start_of (loop-of c.before.before)).args.t.now)) ≡ true
-right c = tested c.before.before ∙ not-false _ c.before.if1.false
+right : (c : tie.After-place_at-i invariant-loop decreases-loop)
+    → is_valid (decoded c.args.lim
+    (drop c.loop-left.at c.args.t.now)) ≡ true
+right c = tested c.before.before ∙ c.if-not-is_literal.false
 
-mark-place-requires : tie.Need-mark-place-requires invariant-loop decreases-loop
+mark-place-requires : tie.Need-mark_place-requires invariant-loop decreases-loop
 mark-place-requires c κs =
-    let at_place = c.before.before in
-    let at-loop = loop-of at_place.before.before in
-    let start = start_of at-loop in
-    let m = at-loop.loop.inv in
-    let low = valid-placed start.args.lim start.pre.1.0 _ (right at_place) in
-    (omega (arith, at_place.place_at.ensures, low, m.same, start.pre.1.1.0), m.tallied)
+    let m = c.loop-left.invariant in
+    let low = valid-placed c.args.lim c.requires.1.0 _ (right c.before.before) in
+    (omega (arith, c.place_at-i.ensures, low, m.same, c.requires.1.1.0), m.tallied)
 
--- where a place was marked
-abbrev place-of : tie.After-slice-known4 invariant-loop decreases-loop → tie.After-place-at invariant-loop decreases-loop
-place-of c =
-    let at-mark-place = c.before.before.before.before in
-    at-mark-place.before.before.before
-
-abbrev passed : tie.After-slice-known4 invariant-loop decreases-loop → tie.At-loop invariant-loop decreases-loop
-passed c =
-    let at-is-literal = (place-of c).before.before in
-    loop-of at-is-literal
-
-more : (c : tie.After-slice-known4 invariant-loop decreases-loop) → 0 < (passed c).loop.left
+more : (c : tie.After-slice_known-in-loop-left-2-1 invariant-loop decreases-loop) → 0 < c.loop-left.left
 more c =
-    let at-is-literal = (place-of c).before.before in
-    at-is-literal.before.before.loop-test.taken
+    c.loop-left-test.true
 
-loop-again : tie.Need-loop-preserved invariant-loop decreases-loop
+loop-again : tie.Need-loop-left-preserved invariant-loop decreases-loop
 loop-again c =
-    let made = c.before.before.before.before.mark-place.ensures in
-    marking-next (passed c).loop.invariant (more c) (right (place-of c)) _ (place-of c).place_at.ensures _ _ made.0 made.1
+    let made = c.mark_place.ensures in
+    marking-next c.loop-left.invariant (more c) (right c.before.before.before.before.before.before.before) _ c.place_at-i.ensures _ _ made.0 made.1
 
-returns-2 : tie.Need-returns-2 invariant-loop decreases-loop
+returns-2 : tie.Need-returns invariant-loop decreases-loop
 returns-2 c =
-    let m = c.before.loop.invariant in
-    (sym (marking-right m c.loop-test.false), ((λ right. marking-gained m c.loop-test.false), m.tallied))
+    let m = c.loop-left.invariant in
+    (sym (marking-right m c.loop-left-test.false), ((λ right. marking-gained m c.loop-left-test.false), m.tallied))
 
 pub mark_literals_spec : {M : Type 1} → statement M
 mark_literals_spec =
-    tie.close (tie.spec invariant-loop decreases-loop loop-holds (λ c. omega (arith, c.before.loop.invariant.fits)) (λ c. omega (arith, c.before.loop.invariant.fits))
-    (λ c. search rules) (λ c κs. search rules) (λ c. (loop-of c.before).loop.inv.same) (λ c. same-counts (loop-of c.before)) returns
-    place-at-requires mark-place-requires (λ c. omega (arith, (passed c).loop.invariant.fits, more c)) (λ c. omega (arith, more c))
-    (λ c. omega (arith, more c)) loop-again (λ c. c.before.loop.invariant.same) (λ c. same-counts c.before) returns-2)
+    tie.close (tie.spec invariant-loop decreases-loop loop-holds (λ c. omega (arith, c.loop-left.invariant.fits)) (λ c. omega (arith, c.loop-left.invariant.fits))
+    (λ c. search rules) (λ c κs. search rules) (λ c. c.loop-left.invariant.same) (λ c. same-counts c.before.before.before.before) returns
+    place-at-requires mark-place-requires (λ c. omega (arith, c.loop-left.invariant.fits, more c)) (λ c. omega (arith, more c))
+    (λ c. omega (arith, more c)) loop-again (λ c. c.loop-left.invariant.same) (λ c. same-counts c.before) returns-2)

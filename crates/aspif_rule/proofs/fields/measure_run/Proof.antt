@@ -7,49 +7,41 @@ use Rattle.aspif_rule.proofs.Laws.Run.{Measuring, measuring-start, measuring-nex
 use Rattle.aspif_rule.proofs.fields.measure_run.Statement.{statement}
 use Rattle.aspif_rule.proofs.fields.measure_run.Tie as tie
 
-abbrev invariant-loop : tie.invariant-loop
+abbrev invariant-loop : tie.invariant-loop-left
 invariant-loop s from count bits counts at₀ left₀ total₀ at left total = Measuring bits s from count at left total
 
-abbrev decreases-loop : tie.decreases-loop
+abbrev decreases-loop : tie.decreases-loop-left
 decreases-loop s from count bits counts at₀ left₀ total₀ at left total = left
 
-loop-holds : tie.Need-loop-init invariant-loop decreases-loop
+loop-holds : tie.Need-loop-left-init invariant-loop decreases-loop
 loop-holds c =
-    let start = c.before.before.before in
-    let a = start.args in
-    measuring-start a.bits.now a.s.now a.from a.count start.requires.0 start.requires.1.1.0
+    let a = c.args in
+    measuring-start a.bits.now a.s.now a.from a.count c.requires.0 c.requires.1.1.0
 
-place-at-requires : tie.Need-place-at-requires invariant-loop decreases-loop
-place-at-requires c κs = omega (arith, c.before.loop.invariant.rest.fits, c.loop-test.true)
+place-at-requires : tie.Need-place_at-requires invariant-loop decreases-loop
+place-at-requires c κs = omega (arith, c.loop-left.invariant.rest.fits, c.loop-left-test.true)
 
-number-at-requires : tie.Need-number-at-requires invariant-loop decreases-loop
+number-at-requires : tie.Need-number_at-n-requires invariant-loop decreases-loop
 number-at-requires c κs =
-    let at_test = c.before in
-    let at-loop = at_test.before in
-    let ready = at-loop.before.before.before.before.requires.1.1.1 in
-    (omega (arith, c.place_at.ensures, left-place at-loop.loop.invariant.rest at_test.loop-test.true), (omega (arith, ready.whole), ready.summed))
+    let ready = c.requires.1.1.1 in
+    (omega (arith, c.place_at.ensures, left-place c.loop-left.invariant.rest c.loop-left-test.true), (omega (arith, ready.whole), ready.summed))
 
--- the loop, where a field was measured
-abbrev loop-of : tie.After-measure-field invariant-loop decreases-loop → tie.At-loop invariant-loop decreases-loop
-loop-of c = c.before.before.before.before
+more : (c : tie.After-measure_field-total invariant-loop decreases-loop) → 0 < c.loop-left.left
+more c = c.loop-left-test.true
 
-more : (c : tie.After-measure-field invariant-loop decreases-loop) → 0 < (loop-of c).loop.left
-more c = c.before.before.before.loop-test.true
-
-add_total : tie.Need-overflow-add-total invariant-loop decreases-loop
+add_total : tie.Need-overflow_add-total invariant-loop decreases-loop
 add_total c =
-    let count = (loop-of c).before.before.before.before.requires.1.0 in
-    omega (arith, (loop-of c).loop.invariant.short, c.measure-field.ensures.short, more c, count)
+    let count = c.requires.1.0 in
+    omega (arith, c.loop-left.invariant.short, c.measure_field-total.ensures.short, more c, count)
 
-loop-again : tie.Need-loop-preserved invariant-loop decreases-loop
+loop-again : tie.Need-loop-left-preserved invariant-loop decreases-loop
 loop-again c =
-    let at-number = c.before in
-    measuring-next (loop-of c).loop.invariant (more c) _ _ _ at-number.before.place_at.ensures at-number.number_at.ensures.0 c.measure-field.ensures
+    measuring-next c.loop-left.invariant (more c) _ _ _ c.place_at.ensures c.number_at-n.ensures.0 c.measure_field-total.ensures
 
 returns : tie.Need-returns invariant-loop decreases-loop
-returns c = measuring-end c.before.loop.invariant c.loop-test.false
+returns c = measuring-end c.loop-left.invariant c.loop-left-test.false
 
 pub measure_run_spec : {M : Type 1} → statement M
 measure_run_spec =
     tie.close (tie.spec invariant-loop decreases-loop loop-holds place-at-requires number-at-requires (λ c κs. search rules) add_total
-    (λ c. omega (arith, (loop-of c).loop.invariant.rest.fits, more c)) (λ c. omega (arith, more c)) (λ c. omega (arith, more c)) loop-again returns)
+    (λ c. omega (arith, c.loop-left.invariant.rest.fits, more c)) (λ c. omega (arith, more c)) (λ c. omega (arith, more c)) loop-again returns)

@@ -13,55 +13,38 @@ use Rattle.aspif_rule.proofs.fields.put_field.Tie as tie
 short : (c : tie.Start) → length (field c.args.naf c.args.n) ≤ 12
 short c = field-short c.args.naf c.args.n (omega arith)
 
-write-field-requires : tie.Need-write-field-requires
+write-field-requires : tie.Need-write_field-requires
 write-field-requires c κs =
-    let start = c.before.before.before.before in
-    omega (arith, start.requires.1, short start)
+    omega (arith, c.requires.1, short c.before.before.before.before)
 
-returns : tie.Need-returns
+returns : tie.Need-returns-then-n-ge1000000
 returns c =
-    let at_field = c.before.before in
-    let start = at_field.before.before.before.before.before in
-    let w = at_field.write-field.ensures in
-    (begun-wrote (omega (arith, start.requires.1, short start)) w, omega (arith, w.next, short start))
+    let w = c.write_field.ensures in
+    (begun-wrote (omega (arith, c.requires.1, short c.before.before.before.before.before.before.before)) w, omega (arith, w.next, short c.before.before.before.before.before.before.before))
 
--- the entry, where the decimal was packed
-abbrev start_of : tie.After-pack-decimal → tie.Start
-start_of c = c.before.before.before.before
-
-mul-put-eight : tie.Need-overflow-mul-put-eight
+mul-put-eight : tie.Need-overflow_mul-figures
 mul-put-eight c =
-    let at-pack = c.before.before in
-    omega (arith, figures-low (start_of at-pack).args.n _ at-pack.before.if1.false at-pack.pack-decimal.ensures)
+    omega (arith, figures-low c.args.n _ c.if-n-ge1000000.false c.pack_decimal-packed.ensures)
 
-add-put-eight : tie.Need-overflow-add-put-eight
+add-put-eight : tie.Need-overflow_add-figures
 add-put-eight c =
-    let at-pack = c.before.before in
-    omega (arith, figures-low (start_of at-pack).args.n _ at-pack.before.if1.false at-pack.pack-decimal.ensures)
+    omega (arith, figures-low c.args.n _ c.if-n-ge1000000.false c.pack_decimal-packed.ensures)
 
-returns-2 : tie.Need-returns-2
+returns-2 : tie.Need-returns-then-naf
 returns-2 c =
-    let at-put = c.before.before in
-    let at-if = at-put.before.before in
-    let at-pack = at-if.before in
-    let start = start_of at-pack in
-    let n = start.args.n in
-    let few = at-pack.before.if1.false in
-    let packed = at-pack.pack-decimal.ensures in (
-      naf-begun n _ few packed start.args.naf start.args.at at-if.if2.true start.pre.1 at-put.put-eight.ensures,
+    let n = c.args.n in
+    let few = c.if-n-ge1000000.false in
+    let packed = c.pack_decimal-packed.ensures in (
+      naf-begun n _ few packed c.args.naf c.args.at c.if-naf.true c.requires.1 c.put_eight.ensures,
       omega (arith, many-few n _ few packed),
     )
 
-returns-3 : tie.Need-returns-3
+returns-3 : tie.Need-returns
 returns-3 c =
-    let at-put = c.before.before in
-    let at-if = at-put.before.before in
-    let at-pack = at-if.before in
-    let start = start_of at-pack in
-    let n = start.args.n in
-    let few = at-pack.before.if1.false in
-    let packed = at-pack.pack-decimal.ensures in (
-      positive-begun n _ few packed start.args.naf start.args.at at-if.if2.false start.pre.1 at-put.put-eight2.ensures,
+    let n = c.args.n in
+    let few = c.if-n-ge1000000.false in
+    let packed = c.pack_decimal-packed.ensures in (
+      positive-begun n _ few packed c.args.naf c.args.at c.if-naf.false c.requires.1 c.put_eight-2.ensures,
       omega (arith, many-few n _ few packed),
     )
 

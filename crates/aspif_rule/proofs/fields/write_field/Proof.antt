@@ -7,50 +7,36 @@ use Rattle.aspif_rule.proofs.Laws.Fields.{length-naf, length-positive, field_roo
 use Rattle.aspif_rule.proofs.fields.write_field.Statement.{statement}
 use Rattle.aspif_rule.proofs.fields.write_field.Tie as tie
 
-put-byte-requires : tie.Need-put-byte-requires
+put-byte-requires : tie.Need-put_byte-requires
 put-byte-requires c κs =
-    let start = c.before.before in
-    let a = start.args in
-    field_room a.naf a.n a.at (length a.out.now) start.requires
+    let a = c.args in
+    field_room a.naf a.n a.at (length a.out.now) c.requires
 
-put-byte-requires-2 : tie.Need-put-byte-requires-2
+put-byte-requires-2 : tie.Need-put_byte-requires-then-naf
 put-byte-requires-2 c κs =
-    let at-put = c.before.before.before.before in
-    let a = at-put.before.before.before.args in
-    omega (arith, length-naf a.naf a.n c.before.if1.true)
+    let a = c.args in
+    omega (arith, length-naf a.naf a.n c.if-naf.true)
 
-write-decimal-requires : tie.Need-write-decimal-requires
+write-decimal-requires : tie.Need-write_decimal-requires
 write-decimal-requires c κs =
-    let at_sign = c.before.before.before in
-    let at-if = at_sign.before.before in
-    let at-put = at-if.before.before.before in
-    let a = at-put.before.before.before.args in
-    omega (arith, length-naf a.naf a.n at-if.if1.true)
+    let a = c.args in
+    omega (arith, length-naf a.naf a.n c.if-naf.true)
 
-returns : tie.Need-returns
+returns : tie.Need-returns-then-naf
 returns c =
-    let at-decimal = c.before.before in
-    let at_sign = at-decimal.before.before.before.before in
-    let at-if = at_sign.before.before in
-    let at-put = at-if.before.before.before in
-    let start = at-put.before.before.before in
-    let a = start.args in
-    naf-wrote a.naf a.n a.at _ at-if.if1.true start.requires at-put.put_byte.ensures at_sign.put-byte2.ensures
-    at-decimal.write-decimal.ensures
+    let a = c.args in
+    naf-wrote a.naf a.n a.at _ c.if-naf.true c.requires c.put_byte.ensures c.put_byte-then-naf.ensures
+    c.write_decimal.ensures
 
-write-decimal-requires-2 : tie.Need-write-decimal-requires-2
+write-decimal-requires-2 : tie.Need-write_decimal-requires-2
 write-decimal-requires-2 c κs =
-    let at-put = c.before.before.before.before in
-    let a = at-put.before.before.before.args in
-    omega (arith, length-positive a.naf a.n c.before.if1.false)
+    let a = c.args in
+    omega (arith, length-positive a.naf a.n c.if-naf.false)
 
-returns-2 : tie.Need-returns-2
+returns-2 : tie.Need-returns
 returns-2 c =
-    let at-if = c.before.before.before.before in
-    let at-put = at-if.before.before.before in
-    let start = at-put.before.before.before in
-    let a = start.args in
-    positive-wrote a.naf a.n a.at _ at-if.if1.false start.requires at-put.put_byte.ensures c.before.before.write-decimal2.ensures
+    let a = c.args in
+    positive-wrote a.naf a.n a.at _ c.if-naf.false c.requires c.put_byte.ensures c.write_decimal-2.ensures
 
 pub write_field_spec : {M : Type 1} → statement M
 write_field_spec =

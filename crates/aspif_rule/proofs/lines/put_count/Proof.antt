@@ -6,14 +6,11 @@ use Rattle.aspif_rule.proofs.Laws.Lines.{figure-begun}
 use Rattle.aspif_rule.proofs.lines.put_count.Statement.{statement}
 use Rattle.aspif_rule.proofs.lines.put_count.Tie as tie
 
-returns : tie.Need-returns
+returns : tie.Need-returns-then-n-lt10
 returns c =
-    let at-word = c.before.before in
-    let at-if = at-word.before.before in
-    let start = at-if.before.before.before in
-    let a = start.args in
-    let w = at-word.put_word.ensures in
-    (figure-begun a.at a.n _ at-if.if1.true (omega (arith, start.requires.1)) w, omega (arith, w.next))
+    let a = c.args in
+    let w = c.put_word.ensures in
+    (figure-begun a.at a.n _ c.if-n-lt10.true (omega (arith, c.requires.1)) w, omega (arith, w.next))
 
 pub put_count_spec : {M : Type 1} → statement M
 put_count_spec =

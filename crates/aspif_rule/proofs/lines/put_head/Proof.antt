@@ -8,14 +8,10 @@ use Rattle.aspif_rule.proofs.lines.put_head.Tie as tie
 
 returns : tie.Need-returns
 returns c =
-    let at-run = c.before.before in
-    let at_count = at-run.before.before.before.before in
-    let at_mark = at_count.before.before.before.before in
-    let start = at_mark.before.before.before.before.before in
-    let a = start.args in
-    let count = at_count.put_count.ensures in
-    let run = at-run.put-run.ensures in (
-      head-begun a.numbers.now a.from a.heads a.to _ _ start.requires.1.0 (omega (arith, start.requires.1.1)) at_mark.put-mark.ensures count.0
+    let a = c.args in
+    let count = c.put_count-at.ensures in
+    let run = c.put_run.ensures in (
+      head-begun a.numbers.now a.from a.heads a.to _ _ c.requires.1.0 (omega (arith, c.requires.1.1)) c.put_mark.ensures count.0
           run.0,
       omega (arith, count.1, run.1),
     )

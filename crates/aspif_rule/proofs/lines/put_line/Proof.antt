@@ -6,38 +6,22 @@ use Rattle.aspif_rule.proofs.Laws.Lines.{line-begun}
 use Rattle.aspif_rule.proofs.lines.put_line.Statement.{statement}
 use Rattle.aspif_rule.proofs.lines.put_line.Tie as tie
 
--- where the head's part was put, and the entry
-abbrev head_of : tie.After-put-word → tie.After-put-head
-head_of c = c.before.before.before.before
-
-abbrev start_of : tie.After-put-head → tie.Start
-start_of c =
-    let at-counts = c.before.before in
-    let slices = at-counts.before.before.before in
-    slices.before.before.before.before
-
-put-body-requires : tie.Need-put-body-requires
+put-body-requires : tie.Need-put_body-requires
 put-body-requires c κs =
-    let at_zero = c.before.before.before in
-    let at_head = head_of at_zero in
-    let p = (start_of at_head).pre in
-    let head = at_head.put-head.ensures in
-    let same = at_zero.put_word.auto.0 in (
+    let p = c.requires in
+    let head = c.put_head-at.ensures in
+    let same = c.put_word-body.auto.out in (
       p.0,
-      (omega (arith, p.1.1.0), omega (arith, p.1.1.1, head.1, head.0.same, at_zero.put_word.ensures.next, same)),
+      (omega (arith, p.1.1.0), omega (arith, p.1.1.1, head.1, head.0.same, c.put_word-body.ensures.next, same)),
     )
 
 returns : tie.Need-returns
 returns c =
-    let at_body = c.before.before in
-    let at_zero = at_body.before.before.before.before in
-    let at_head = head_of at_zero in
-    let start = start_of at_head in
-    let a = start.args in
-    let p = start.pre.1 in
-    let head = at_head.put-head.ensures in
-    let body = at_body.put-body.ensures in
-    let zero = at_zero.put_word.ensures in (
+    let a = c.args in
+    let p = c.requires.1 in
+    let head = c.put_head-at.ensures in
+    let body = c.put_body.ensures in
+    let zero = c.put_word-body.ensures in (
       line-begun a.numbers.now a.from a.part.now a.to _ _ _ head.0 (omega (arith, p.1.1, head.1, head.0.same)) zero body.0,
       omega (arith, head.1, zero.next, body.1),
     )

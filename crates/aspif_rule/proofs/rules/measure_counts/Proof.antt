@@ -11,10 +11,10 @@ use Rattle.aspif_rule.proofs.rules.measure_counts.Tie as tie
 
 returns : tie.Need-returns
 returns c =
-    let first = c.before.before.measure-field.ensures in
-    let second = c.measure-field2.ensures in
+    let first = c.measure_field.ensures in
+    let second = c.measure_field-2.ensures in
     record {
-      long = omega (arith, first.long, second.long, ap (λ n. length (field false n)) c.before.add-counts.ensures);
+      long = omega (arith, first.long, second.long, ap (λ n. length (field false n)) c.add_counts.ensures);
       short = omega (arith, first.short, second.short);
     }
 

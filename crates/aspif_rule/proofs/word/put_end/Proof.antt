@@ -11,9 +11,8 @@ use Rattle.aspif_rule.proofs.word.put_end.Tie as tie
 
 returns : tie.Need-returns
 returns c =
-    let at-put = c.before.before in
-    let a = at-put.before.before.before.args in
-    wrote a.at (line_end ∷ []) (a.at + 1) at-put.put_byte.ensures refl
+    let a = c.args in
+    wrote a.at (line_end ∷ []) (a.at + 1) c.put_byte.ensures refl
 
 pub put_end_spec : {M : Type 1} → statement M
 put_end_spec = tie.close (tie.spec (λ c κs. search rules) (λ c. search rules) (λ c. search rules) returns)

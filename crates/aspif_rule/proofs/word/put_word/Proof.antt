@@ -12,12 +12,9 @@ use Rattle.aspif_rule.proofs.word.put_word.Tie as tie
 
 returns : tie.Need-returns
 returns c =
-    let at_second = c.before.before in
-    let at_first = at_second.before.before.before.before in
-    let start = at_first.before.before.before in
-    let a = start.args in
-    wrote_then (omega (arith, start.requires)) (wrote a.at (blank ∷ []) (a.at + 1) at_first.put_byte.ensures refl)
-    (wrote (a.at + 1) (a.b ∷ []) (a.at + 2) at_second.put-byte2.ensures (omega arith))
+    let a = c.args in
+    wrote_then (omega (arith, c.requires)) (wrote a.at (blank ∷ []) (a.at + 1) c.put_byte.ensures refl)
+    (wrote (a.at + 1) (a.b ∷ []) (a.at + 2) c.put_byte-2.ensures (omega arith))
 
 pub put_word_spec : {M : Type 1} → statement M
 put_word_spec =

@@ -18,52 +18,35 @@ use Rattle.assembly_call.proofs.Laws.Calls.{refused-meets}
 use Rattle.assembly_call.proofs.call.add_record.Statement.{statement}
 use Rattle.assembly_call.proofs.call.add_record.Tie as tie
 
-abbrev start_of : tie.After-inspect-source → tie.Start
-start_of c = c.before.before.before.before.before
-
 -- what the state says
-standing : (c : tie.After-inspect-source) → c.inspect_source.result ≡ standing_of (stage_of source (start_of c).args.state.now)
-standing c = c.inspect_source.ensures
+standing : (c : tie.After-inspect_source-standing) → c.inspect_source-standing.result ≡ standing_of (stage_of source c.args.state.now)
+standing c = c.inspect_source-standing.ensures
 
 -- its elements are bytes
-bytes : (c : tie.After-inspect-source) → Bytes (start_of c).args.state.now
-bytes c i = (c.before.before.before.before.slice-known.given i).fits
-
-abbrev said_of : tie.Else1 → tie.After-inspect-source
-said_of c = c.before.before
+bytes : (c : tie.After-inspect_source-standing) → Bytes c.args.state.now
+bytes c i = (c.slice_known-1.given i).fits
 
 -- what reading the record came to
-read : (c : tie.After-read-rule) → (let said = said_of c.before.before in
-    c.read-rule.result ≡ size_of (rule_only source said.inspect_source.result.rules (start_of said).args.rule.now))
+read : (c : tie.After-read_rule-read) → (c.read_rule-read.result ≡ size_of (rule_only source c.inspect_source-standing.result.rules c.args.rule.now))
 read c =
-    let said = said_of c.before.before in
-    c.read-rule.ensures ∙ ap (λ (F : Limits). size_of (rule_only F said.inspect_source.result.rules (start_of said).args.rule.now)) c.before.limits.ensures
+    c.read_rule-read.ensures ∙ ap (λ (F : Limits). size_of (rule_only F c.inspect_source-standing.result.rules c.args.rule.now)) c.limits.ensures
 
-returns : tie.Need-returns
+returns : tie.Need-returns-then-not-standing
 returns c =
-    let at-if = c.before in
-    let said = at-if.before.before in
-    refused-meets _ _ _ _ _ (idle-add source _ _ (sym (ap (λ (h : Standing). h.active) (standing said)) ∙ not-true _ at-if.if1.true) _) c.refuse.ensures
+    refused-meets _ _ _ _ _ (idle-add source _ _ (sym (ap (λ (h : Standing). h.active) (standing c.before.before.before)) ∙ not-true _ c.if-not-standing.true) _) c.refuse.ensures
 
-hold-record-requires : tie.Need-hold-record-requires
+hold-record-requires : tie.Need-hold_record-requires
 hold-record-requires c κs =
-    let at_size = c.before.before.before in
-    let at_read = at_size.before.before in
-    let said = said_of at_read.before.before in
-    (standing said, (not-false _ at_read.before.before.if1.false, size-accepted _ _ (sym (read at_read) ∙ at_size.read.given.1)))
+    (standing c.before.before.before.before.before.before.before, (not-false _ c.if-not-standing.false, size-accepted _ _ (sym (read c.before.before.before) ∙ c.in-Length.is)))
 
-returns-2 : tie.Need-returns-2
-returns-2 c = c.before.before.before.before.hold-record.ensures
+returns-2 : tie.Need-returns-in-Length
+returns-2 c = c.hold_record.ensures
 
-returns-3 : tie.Need-returns-3
+returns-3 : tie.Need-returns-in-Refused
 returns-3 c =
-    let at-refused = c.before in
-    let at_read = at-refused.before.before in
-    let at-if = at_read.before.before in
-    let said = said_of at-if in
-    let a = (start_of said).args in
-    let w = active-state source assemblable-source a.state.now (bytes said) said.inspect_source.result (standing said) (not-false _ at-if.if1.false) in
-    refused-meets _ _ _ _ _ (add-refused source assemblable-source _ _ _ _ w a.rule.now _ (size-refused _ _ (sym (read at_read) ∙ at-refused.read2.given.1))) refl
+    let a = c.args in
+    let w = active-state source assemblable-source a.state.now (bytes c.before.before.before.before.before) c.inspect_source-standing.result (standing c.before.before.before.before.before) (not-false _ c.if-not-standing.false) in
+    refused-meets _ _ _ _ _ (add-refused source assemblable-source _ _ _ _ w a.rule.now _ (size-refused _ _ (sym (read c.before) ∙ c.in-Refused.is))) refl
 
 pub add_record_spec : {M : Type 1} → statement M
 add_record_spec =

@@ -17,50 +17,40 @@ use Rattle.assembly_call.proofs.call.begin_state.Statement.{statement}
 use Rattle.assembly_call.proofs.call.begin_state.Tie as tie
 
 -- the limits are the source form's
-ok : (c : tie.After-limits) → Assemblable c.limits.result
-ok c = subst Assemblable (sym c.limits.ensures) assemblable-source
-
-abbrev limits_of : tie.Else1 → tie.After-limits
-limits_of c = c.before.before
+ok : (c : tie.After-limits-lim) → Assemblable c.limits-lim.result
+ok c = subst Assemblable (sym c.limits-lim.ensures) assemblable-source
 
 -- the state has its length
-long : (c : tie.Else1) → length (limits_of c).before.before.before.args.state.now ≡ state_bytes source
-long c = c.if1.false ∙ ap state_bytes (limits_of c).limits.ensures
+long : (c : tie.Else-state-lim) → length c.args.state.now ≡ state_bytes source
+long c = c.if-state-lim.false ∙ ap state_bytes c.limits-lim.ensures
 
-mul-if1 : tie.Need-overflow-mul-if1
+mul-if1 : tie.Need-overflow_mul-lim
 mul-if1 c = omega (arith, (ok c.before).rules)
 
-add-if1 : tie.Need-overflow-add-if1
+add-if1 : tie.Need-overflow_add-lim
 add-if1 c = omega (arith, (ok c.before).rules)
 
-returns : tie.Need-returns
+returns : tie.Need-returns-then-state-lim
 returns c =
-    let at-if = c.before in
-    let at-limits = at-if.before.before in
-    let a = at-limits.before.before.before.args in
+    let a = c.args in
     refused-keeps _ _ _ _ a.out.now
-    (length-turn source begin a.state.now a.out.now (λ q. at-if.if1.true (q ∙ sym (ap state_bytes at-limits.limits.ensures)))) c.refuse.ensures
+    (length-turn source begin a.state.now a.out.now (λ q. c.if-state-lim.true (q ∙ sym (ap state_bytes c.limits-lim.ensures)))) c.refuse.ensures
 
-returns-2 : tie.Need-returns-2
+returns-2 : tie.Need-returns-then-out-lt4
 returns-2 c =
-    let at-if1 = c.before.before in
-    let a = (limits_of at-if1).before.before.before.args in
-    refused-keeps _ _ _ _ a.out.now (begin-short source a.state.now a.out.now (long at-if1) c.before.if2.true) c.refuse2.ensures
+    let a = c.args in
+    refused-keeps _ _ _ _ a.out.now (begin-short source a.state.now a.out.now (long c.before.before) c.if-out-lt4.true) c.refuse-then-out-lt4.ensures
 
-open-state-requires : tie.Need-open-state-requires
-open-state-requires c κs = let at-if1 = c.before.before in at-if1.if1.false
+open-state-requires : tie.Need-open_state-requires
+open-state-requires c κs = c.if-state-lim.false
 
-returns-3 : tie.Need-returns-3
+returns-3 : tie.Need-returns
 returns-3 c =
-    let at_open = c.before.before in
-    let at-if2 = at_open.before.before in
-    let at-if1 = at-if2.before in
-    let at-limits = limits_of at-if1 in
-    let a = at-limits.before.before.before.args in
+    let a = c.args in
     keeps _ _ _ a.out.now
-    (begin-held source a.state.now a.out.now (long at-if1) at-if2.if2.false
+    (begin-held source a.state.now a.out.now (long c.before.before.before.before.before) c.if-out-lt4.false
     ∙ ap (λ st. record { answer = Reading.Count 0; state = st; buffer = a.out.now })
-    (sym (at_open.open-state.ensures ∙ ap (λ F. encoded_stage F (opened [])) at-limits.limits.ensures)))
+    (sym (c.open_state.ensures ∙ ap (λ F. encoded_stage F (opened [])) c.limits-lim.ensures)))
 
 pub begin_state_spec : {M : Type 1} → statement M
 begin_state_spec =

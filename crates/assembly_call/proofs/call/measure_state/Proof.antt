@@ -11,13 +11,12 @@ use Rattle.assembly_call.proofs.call.measure_state.Statement.{statement}
 use Rattle.assembly_call.proofs.call.measure_state.Tie as tie
 
 -- what the state says
-standing : (c : tie.After-inspect-source) → c.inspect_source.result ≡ standing_of (stage_of source c.before.before.args.state.now)
-standing c = c.inspect_source.ensures
+standing : (c : tie.After-inspect_source-standing) → c.inspect_source-standing.result ≡ standing_of (stage_of source c.args.state.now)
+standing c = c.inspect_source-standing.ensures
 
-add-result : tie.Need-overflow-add-result
+add-result : tie.Need-overflow_add-result
 add-result c =
-    let at-inspect = c.before in
-    omega (arith, standing-small source assemblable-source _ (λ i. (at-inspect.before.shared-slice-known.given i).fits) _ (standing at-inspect))
+    omega (arith, standing-small source assemblable-source _ (λ i. (c.shared_slice_known-1.given i).fits) _ (standing c.before))
 
 returns : tie.Need-returns
 returns c = assembled-standing source _ _ (standing c.before)

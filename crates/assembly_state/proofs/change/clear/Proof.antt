@@ -2,7 +2,6 @@
 -- Assumes nothing.
 use Prim.Native.Nat.{◌-◌}
 use native.Mathlib.Omega.{arith}
-use mathlib.Core.Path.{sym}
 use lib.ListN.{length}
 use borrow.Author.Rules.{rules}
 use Rattle.assembly_state.proofs.Laws.Zeros.{Cleared, cleared-start, cleared-length, cleared-next, cleared-end}

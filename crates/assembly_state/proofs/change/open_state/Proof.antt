@@ -1,7 +1,7 @@
 -- `change::open_state` meets its contract: zeros, and the first byte. Assumes nothing.
 use native.Mathlib.Omega.{arith}
 use mathlib.Core.Path.{ap, ◌∙◌}
-use mathlib.Core.List.{List, [], ◌∷◌}
+use mathlib.Core.List.{[], ◌∷◌}
 use lib.ListN.{replicate}
 use borrow.Author.Rules.{rules}
 use Rattle.buffer.specs.Write.{write}

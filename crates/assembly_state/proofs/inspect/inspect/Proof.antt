@@ -1,13 +1,10 @@
 -- `inspect::inspect` meets its contract: a test that fails, or what the state says.
 -- Assumes nothing.
-use Prim.Native.Nat.{ℕ, ◌+◌, ◌*◌, ◌≤◌}
+use Prim.Native.Nat.{◌≤◌}
 use native.Mathlib.Omega.{arith}
-use mathlib.Core.Path.{◌≡◌, refl, sym, ap, ap₂, subst, ◌∙◌}
-use mathlib.Core.Bool.{Bool, true, false}
-use lib.Dec.{T}
-use lib.ListN.{length}
+use mathlib.Core.Path.{◌≡◌, sym, ap, subst, ◌∙◌}
+use mathlib.Core.Bool.{true}
 use borrow.Author.Rules.{rules}
-use borrow.Author.Tests.{not-true, not-false}
 use Rattle.semantics.specs.Set.{each_of}
 use Rattle.semantics.proofs.Laws.Tests.{along}
 use Rattle.assembly.specs.State.{count_at, keeps_shape, held_shapes, is_headed}
@@ -44,11 +41,11 @@ tallied c =
 
 returns-2 : tie.Need-returns-then-not-is_within
 returns-2 c =
-    c.stand_before-then-not-is_within.ensures ∙ shapes-none _ _ ((tallied c.before.before.before).each ∙ sym c.is_Within.ensures ∙ c.if-not-is_within.true)
+    c.stand_before-then-not-is_within.ensures ∙ shapes-none _ _ ((tallied c.before.before.before).each ∙ sym c.is_within.ensures ∙ c.if-not-is_within.true)
 
 -- each rule's shape is right
 shapes-right : (c : tie.Else-not-is_within) → (let a = c.args in each_of (keeps_shape a.lim) (held_shapes a.lim a.state.now) ≡ true)
-shapes-right c = (tallied c.before.before).each ∙ sym c.is_Within.ensures ∙ c.if-not-is_within.false
+shapes-right c = (tallied c.before.before).each ∙ sym c.is_within.ensures ∙ c.if-not-is_within.false
 
 is-clear-behind-requires : tie.Need-is_clear_behind-requires
 is-clear-behind-requires c κs =

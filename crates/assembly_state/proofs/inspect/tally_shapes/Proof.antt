@@ -1,8 +1,7 @@
 -- `inspect::tally_shapes` meets its contract. Invariant: what was added up, and what is left, come to the whole. Measure: the rules left.
 -- Assumes nothing.
-use Prim.Native.Nat.{◌+◌, ◌<◌}
+use Prim.Native.Nat.{◌+◌}
 use native.Mathlib.Omega.{arith}
-use lib.ListN.{length}
 use borrow.Author.Rules.{rules}
 use Rattle.buffer.specs.Bytes.{Bytes}
 use Rattle.assembly_state.proofs.Laws.Tally.{Tallying, tallying-start, tallying-next, tallying-end}
@@ -15,12 +14,6 @@ invariant-loop lim state rules mh₀ mb₀ heads₀ body₀ at₀ left₀ mh mb 
 abbrev decreases-loop : tie.decreases-loop-left
 decreases-loop lim state rules mh₀ mb₀ heads₀ body₀ at₀ left₀ mh mb heads body at left = left
 
-within : (c : tie.After-shared_slice_known-in-loop-left-1 invariant-loop decreases-loop)
-    → c.loop-left.at + c.args.lim.rules < length c.args.state.now
-within c =
-    let pre = c.requires in
-    omega (arith, c.loop-left.invariant.place, pre.1.0, pre.1.1, c.loop-left-test.true)
-
 -- the slice's elements are bytes
 bytes : (c : tie.After-pick_larger-most_body invariant-loop decreases-loop) → Bytes c.args.state.now
 bytes c i = (c.shared_slice_known-in-loop-left-2-1.given i).fits
@@ -29,7 +22,9 @@ loop-holds : tie.Need-loop-left-init invariant-loop decreases-loop
 loop-holds c = tallying-start _ _ _
 
 read-heads : tie.Need-bounds-state-at invariant-loop decreases-loop
-read-heads c = omega (arith, within c)
+read-heads c =
+    let pre = c.requires in
+    omega (arith, c.loop-left.invariant.place, pre.1.0, pre.1.1, c.loop-left-test.true)
 
 add-b : tie.Need-overflow_add-b invariant-loop decreases-loop
 add-b c =
@@ -37,7 +32,9 @@ add-b c =
     omega (arith, c.loop-left.invariant.place, pre.0.rules, pre.1.0)
 
 read-body : tie.Need-bounds-state-at-in-loop-left invariant-loop decreases-loop
-read-body c = within c.before.before.before
+read-body c =
+    let pre = c.requires in
+    omega (arith, c.loop-left.invariant.place, pre.1.0, pre.1.1, c.loop-left-test.true)
 
 add-heads : tie.Need-overflow_add-heads invariant-loop decreases-loop
 add-heads c =
