@@ -8,10 +8,7 @@ command -v cargo >/dev/null || { echo "aspda.sh: cargo is missing (Debian: apt-g
 if [ ! -f "$root/target/staticlib/libaspda.a" ]; then
     echo "aspda.sh: building the library; everything is proved first, which takes some minutes" >&2
     log=$(mktemp)
-    # rt staticlib proves one crate after another, rt check several at a time: what aspda stands on comes first.
-    # shellcheck disable=SC2046  # a list of crates
-    (cd "$root" && . .ci/temporary.sh && RT_JOBS=${RT_JOBS:-4} rt check $(sed -n 's/^aspda://p' crates.txt) && rt staticlib aspda) >"$log" 2>&1 ||
-        { cat "$log" >&2; rm -f "$log"; exit 1; }
+    (cd "$root" && . .ci/temporary.sh && .ci/build) >"$log" 2>&1 || { cat "$log" >&2; rm -f "$log"; exit 1; }
     rm -f "$log"
 fi
 

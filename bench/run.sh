@@ -6,7 +6,7 @@
 set -euo pipefail
 cd "$(dirname "${BASH_SOURCE[0]}")/.."
 export LIBRARY=${LIBRARY:-target/staticlib}
-[ -f "$LIBRARY/libaspda.a" ] || rt staticlib aspda
+[ -f "$LIBRARY/libaspda.a" ] || .ci/build
 mkdir -p target/bench
 rustc --edition 2021 -C opt-level=3 -o target/bench/speed bench/main.rs -L "native=$LIBRARY"
 target/bench/speed

@@ -1,4 +1,4 @@
-/* Yuldravn's functions for C. Link target/staticlib/libaspda.a (made by `rt staticlib aspda`).
+/* Yuldravn's functions for C. Link target/staticlib/libaspda.a (made by `.ci/build`).
  *
  * Every function answers one 64-bit word. A refusal is 2^63 + number * 2^32 + place, with the number of documents 01 and 02
  * and the byte offset of its place; all else is below 2^63. A pointer comes with its length and is never null; the slice

@@ -27,7 +27,8 @@ ROOT = Path(__file__).resolve().parent.parent
 
 KEYWORDS = frozenset("as break continue else for if in let loop match mut ref return while".split())
 PRIMITIVES = frozenset("bool u8 u16 u32 u64 u128 usize i8 i16 i32 i64 i128 isize".split())
-SLICE_METHODS = frozenset(["len"])
+KIT = frozenset(["std"])
+KIT_METHODS = frozenset("len read stdin stdout write_all".split())
 CONTRACTS = frozenset(["requires", "ensures"])
 CLOSING = {"{": "}", "(": ")", "[": "]"}
 
@@ -40,7 +41,7 @@ TOKEN = re.compile(r"""
 """, re.VERBOSE)
 
 # A crate and those that it stands on; the other lines of crates.txt are headings and comments.
-CRATE_LINE = re.compile(r"(\w+):((?: \w+)*)")
+CRATE_LINE = re.compile(r"(\w+)(?: staticlib)?:((?: \w+)*)")
 
 # A path in backquotes; its last part may be a list in braces, and arguments may stand behind it.
 README_PATH = re.compile(r"`([a-z]\w*(?:::\w+)*)::(?:(\w+)|\{([^}`]*)\})(?:\([^`]*)?`")
@@ -81,25 +82,12 @@ class Function(NamedTuple):
 # Tokens
 
 
-def contract_end(text, at):
-    """The place behind the contract's text that opens at a place."""
-    depth = 0
-    for place in range(at, len(text)):
-        depth += (text[place] == "⌜") - (text[place] == "⌝")
-        if depth == 0:
-            return place + 1
-    raise NotUnderstood("a contract's text has no end")
-
-
 def tokens_of(text):
-    """The tokens of a file, without comments and the texts of contracts."""
+    """The tokens of a file, without comments."""
     found, at, line = [], 0, 1
     while at < len(text):
-        if text[at] == "⌜":
-            end, kind = contract_end(text, at), "blank"
-        else:
-            match = TOKEN.match(text, at)
-            end, kind = match.end(), match.lastgroup
+        match = TOKEN.match(text, at)
+        end, kind = match.end(), match.lastgroup
         if kind != "blank":
             found.append(Token(kind, text[at:end], line))
         line += text.count("\n", at, end)
@@ -183,6 +171,7 @@ class File:
         """Items up to the file's end, or to the end of an `impl` of the type `owner`."""
         while self.next() != ("}" if owner else None):
             if self.take_if("#"):
+                self.take_if("!")
                 self.take_block()
             elif self.take_if("ghost"):
                 self.take_until(";")
@@ -247,6 +236,8 @@ class File:
     def read_function(self, owner, is_public, is_export):
         place = f"{self.name}:{self.tokens[self.at].line}"
         name = self.take_name()
+        if self.next() == "<":
+            self.take_until(">")
         self.take_block()
         while self.next() != "{":
             if self.next() == "[":
@@ -284,7 +275,7 @@ class File:
 
 
 def listed_crates():
-    """Our crates, which have a line of crates.txt, and the kit's, which are only named there."""
+    """Our crates, which have a line of crates.txt, and the kit's: those that are only named there, and std, which no line names."""
     text = (ROOT / "crates.txt").read_text(encoding="utf-8")
     found = [CRATE_LINE.fullmatch(line) for line in text.splitlines()
              if line and not line.startswith("#")]
@@ -294,7 +285,7 @@ def listed_crates():
     folders = {path.name for path in (ROOT / "crates").iterdir()}
     if ours != folders:
         raise NotUnderstood(f"crates.txt and crates/ differ in {sorted(ours ^ folders)}")
-    return ours, {name for line in found for name in line[2].split()} - ours
+    return ours, KIT | {name for line in found for name in line[2].split()} - ours
 
 
 def files_of(crate):
@@ -338,7 +329,7 @@ class Tree:
         name = call.path[-1]
         found = {path for path, function in self.functions.items()
                  if function.scope != function.module and path == f"{function.scope}::{name}"}
-        if not found and name not in SLICE_METHODS:
+        if not found and name not in KIT_METHODS:
             raise NotUnderstood(f"{file.name}:{call.line}: no type has a method {name}")
         return found
 

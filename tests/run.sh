@@ -1,8 +1,7 @@
 #!/bin/sh
 # Everything that runs: functions that nothing reaches, the reference's self-test, the lines of crates/aspda_calls, the vectors, the
 # runner against the library, the short form of tests/reliability, the crate, the command, the worked examples, texts in aspif. Needs
-# python3, rustc, cargo, a C and a C++ compiler, clingo, target/staticlib/libaspda.a (rt staticlib aspda) and target/bin/filter
-# (rt check filter).
+# python3, rustc, cargo, a C and a C++ compiler, clingo, target/staticlib/libaspda.a and target/bin/filter (.ci/build makes both).
 
 set -eu
 cd "$(dirname "$0")/.."
@@ -17,7 +16,7 @@ trap '[ -z "$beside" ] || kill "$beside" 2>/dev/null || true; rm -rf "$build"' E
 say() { printf '%s\n' "tests: $*"; }
 
 if [ ! -f "$LIBRARY/libaspda.a" ]; then
-    say "no $LIBRARY/libaspda.a: run 'rt staticlib aspda' first"
+    say "no $LIBRARY/libaspda.a: run .ci/build first"
     exit 2
 fi
 

@@ -1,6 +1,6 @@
 #!/usr/bin/env bash
 # What calls the library: the Rust crate's and the command's own tests, the built command end to end, the C examples.
-# Needs cargo, a C compiler and libaspda.a in $LIBRARY, else target/staticlib (rt staticlib aspda); no network.
+# Needs cargo, a C compiler and libaspda.a in $LIBRARY, else target/staticlib (.ci/build); no network.
 set -euo pipefail
 cd "$(dirname "${BASH_SOURCE[0]}")/.."
 LIBRARY=$(cd "${LIBRARY:-target/staticlib}" && pwd)
@@ -40,7 +40,7 @@ if ASPDA_LIB_DIR=$build cargo check --offline --manifest-path rust/Cargo.toml --
     >"$build/log" 2>&1; then
     fail "the crate was built without the library"
 fi
-grep -qF 'rt staticlib aspda' "$build/log" || { cat "$build/log"; fail "no word about the missing library"; }
+grep -qF '.ci/build' "$build/log" || { cat "$build/log"; fail "no word about the missing library"; }
 
 quietly cargo build --release --offline --manifest-path rust/Cargo.toml
 bash tests/command.sh | tee "$build/log"

@@ -1,4 +1,4 @@
-//! Finds libaspda.a: in the directory that ASPDA_LIB_DIR names, else where `rt staticlib aspda` leaves it.
+//! Finds libaspda.a: in the directory that ASPDA_LIB_DIR names, else where `.ci/build` puts it.
 
 use std::path::PathBuf;
 use std::{env, process};
@@ -10,7 +10,7 @@ fn main() {
     println!("cargo:rerun-if-changed={}", library.display());
     if !library.is_file() {
         eprintln!("There is no {}.", library.display());
-        eprintln!("Build it with `rt staticlib aspda` at the root of the repository, or name the directory that has");
+        eprintln!("Build it with `.ci/build` at the root of the repository, or name the directory that has");
         eprintln!("libaspda.a in the environment variable ASPDA_LIB_DIR, as an absolute path.");
         process::exit(1);
     }

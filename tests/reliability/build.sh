@@ -2,7 +2,7 @@
 cd "$(dirname "$0")/../.."
 LIBRARY=${LIBRARY:-target/staticlib}
 if [ ! -f "$LIBRARY/libaspda.a" ]; then
-    echo "reliability: no $LIBRARY/libaspda.a: run 'rt staticlib aspda' first"
+    echo "reliability: no $LIBRARY/libaspda.a: run .ci/build first"
     exit 2
 fi
 build=$(mktemp -d)

@@ -2,13 +2,32 @@
 // All that matters is `filter_print::filter::filter_translate`, a proved function on bytes; this program only reads and writes.
 
 #![tactic(auto)]
-use filter_print::filter::{INPUT, OUTPUT, filter_translate};
-use libc::{STDIN_FILENO, STDOUT_FILENO};
 
-fn main() {
+ghost use Rattle.std.specs.Prelude.{◌≤◌, IfOk, length};
+
+use filter_print::filter::{INPUT, OUTPUT, filter_translate};
+use std::io;
+use std::io::{Read, Write};
+
+// Reads until `buf` is full or the input ends, and answers how many bytes it put at the start of `buf`.
+fn read_full<R: Read>(from: &mut R, buf: &mut [u8]) -> io::Result<usize>
+    ensures { IfOk result (λ n. n ≤ length buf.new) }
+{
+    let mut done = 0;
+    while done < buf.len() {
+        let n = from.read(&mut buf[done..])?;
+        if n == 0 {
+            break;
+        }
+        done += n;
+    }
+    Ok(done)
+}
+
+fn main(rt: HostRuntime) -> io::Result<()> {
     let mut input = [0u8; INPUT];
     let mut output = [0u8; OUTPUT];
-    let got = io::read_full(STDIN_FILENO, &mut input);
+    let got = read_full(&mut rt.stdin(), &mut input)?;
     let length = filter_translate(&input, got, &mut output);
-    io::write_all(STDOUT_FILENO, &output[..length]);
+    rt.stdout().write_all(&output[..length])
 }
