@@ -15,7 +15,7 @@ use Rattle.literal.specs.declared.SignedAtom.{SignedAtom}
 use Rattle.literal.specs.declared.SignedAtom.TheVariants.{Positive, Negative}
 use Rattle.literal.specs.declared.Literal.{Literal}
 use Rattle.literal.specs.declared.Literal.TheVariants.{Signed, Defeated, Derived, RuleDefeated}
-use Rattle.semantics.specs.Set.{LiteralSet, some_of, each_of, Subset}
+use Rattle.semantics.specs.Set.{LiteralSet, each_of, Subset}
 use Rattle.semantics.specs.Rule.{Rule, strict, defeasible, Program, head, positive, naf}
 use Rattle.semantics.specs.Meaning.{quotient, models, Interpretation, AnswerSet}
 use Rattle.semantics.specs.Translation.{rule_defeated, translation}

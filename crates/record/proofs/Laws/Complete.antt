@@ -24,14 +24,14 @@ use Rattle.literal.proofs.Laws.Literal.{decoded-encoded, length-encoded}
 use Rattle.semantics.specs.Set.{each_of, same_tag, same_signed}
 use Rattle.semantics.specs.Rule.{Rule, strict, defeasible, head, positive, naf}
 use Rattle.semantics.specs.Expansion.{Override, Opposition}
-use Rattle.semantics.specs.Item.{Item, rule, override, opposition, rules, overrides, oppositions}
+use Rattle.semantics.specs.Item.{Item, rule, override, opposition}
 use Rattle.semantics.specs.Translation.{record_length}
 use Rattle.semantics.specs.Form.{keeps_counts, keeps_rule, keeps_override, keeps_opposition, keeps_item}
 use Rattle.semantics.proofs.Laws.Tests.{both, first, second, is_true, along, all_append}
 use Rattle.semantics.proofs.Laws.Form.{kept}
 use Rattle.record.specs.declared.Reason.TheVariants.{LiteralWrong, HeadWrong}
 use Rattle.record.specs.declared.Held.{Held}
-use Rattle.record.specs.Header.{strict_letter, defeasible_letter, override_letter, opposition_letter}
+use Rattle.record.specs.Header.{strict_letter, defeasible_letter}
 use Rattle.record.specs.Refusal.{refusal}
 use Rattle.record.specs.Result.{Result, accepted, refused, and_then, refuse_if}
 use Rattle.record.specs.Layout.{encoded_literals, rule_record, encoded_rule, encoded_end, encoded_override, encoded_opposition, encoded_item, encoded_items}
@@ -39,7 +39,7 @@ use Rattle.record.specs.Reading.{Mark, RuleMark, OverrideMark, OppositionMark, E
 use Rattle.record.specs.Code.{held_on}
 use Rattle.record.proofs.Laws.Result.{accepted-and-then, refuse-if-false}
 use Rattle.record.proofs.Laws.Steps.{items-item, items-end}
-use Rattle.record.proofs.Laws.Layout.{length-encoded-literals, length-encoded-rule, item_length, length-encoded-item}
+use Rattle.record.proofs.Laws.Layout.{length-encoded-literals, item_length, length-encoded-item}
 use Rattle.record.proofs.Laws.Program.{held_on_lem}
 use Rattle.record.proofs.Laws.Sound.{Fitting}
 

@@ -8,7 +8,7 @@ use mathlib.Core.Path.{◌≡◌, refl, sym, ◌∙◌, ap, subst}
 use mathlib.Core.Bool.{Bool, true, false, not, ◌&&◌, true≢false}
 use mathlib.Core.Logic.{◌⊎◌, inl, inr}
 use mathlib.Core.List.{List, ◌++◌, map}
-use lib.Dec.{T, ltb, leb→le, leb}
+use lib.Dec.{T, leb→le, leb}
 use lib.ListN.{length, take, length-append}
 use borrow.Author.Tests.{lt-ltb, le-ltb, ltb-false, leb-false, not-false}
 use Rattle.buffer.specs.Bytes.{Bytes, number_at}
@@ -27,12 +27,12 @@ use Rattle.record.specs.Header.{head_count, positive_count, naf_count}
 use Rattle.record.specs.Refusal.{refusal}
 use Rattle.record.specs.Result.{Result, accepted, refused, and_then}
 use Rattle.record.specs.Layout.{encoded_rule, encoded_end, encoded_item}
-use Rattle.record.specs.Reading.{Mark, RuleMark, OverrideMark, OppositionMark, EndMark, NoMark, Entry, item, end, literals_at, rule_of, tag_right, body_at, rule_at, mark_at, marked_record, record_at, is_rule, rules_held, entry_size, rule_only}
+use Rattle.record.specs.Reading.{Mark, RuleMark, OverrideMark, OppositionMark, EndMark, NoMark, Entry, item, end, literals_at, rule_of, body_at, rule_at, mark_at, marked_record, record_at, is_rule, rules_held, entry_size, rule_only}
 use Rattle.record.specs.Code.{step_of, size_of, step_size}
-use Rattle.record.proofs.Laws.Result.{refused-accepted, accepted-eq, and-then-accepted, accepted-and-then, refuse-if-accepted, refuse-if-false, refuse-if-true}
+use Rattle.record.proofs.Laws.Result.{accepted-eq, and-then-accepted, accepted-and-then, refuse-if-accepted, refuse-if-false, refuse-if-true}
 use Rattle.record.proofs.Laws.Layout.{length-encoded-rule}
 use Rattle.record.proofs.Laws.Places.{Placed, refuse-if-placed, and-then-placed, literals-placed, rule-of-placed}
-use Rattle.record.proofs.Laws.Sound.{Fitting, EntryItem, record-sound}
+use Rattle.record.proofs.Laws.Sound.{EntryItem, record-sound}
 use Rattle.record.proofs.Laws.Complete.{record-complete, strict-mark, defeasible-mark}
 
 -- an entry's size, by the step that it comes to

@@ -11,7 +11,6 @@ use lib.Seq.{drop-drop}
 use borrow.Author.Tests.{le-ltb, lt-ltb, ltb-false}
 use Rattle.buffer.specs.Bytes.{number_at}
 use Rattle.literal.specs.declared.Limits.{Limits}
-use Rattle.literal.specs.declared.SignedAtom.{SignedAtom}
 use Rattle.semantics.specs.Rule.{Rule}
 use Rattle.semantics.specs.Item.{Item, rule, override, opposition, rules, overrides, oppositions}
 use Rattle.record.specs.declared.Reason.TheVariants.{TooLong}
@@ -20,7 +19,6 @@ use Rattle.record.specs.declared.Step.{Step}
 use Rattle.record.specs.declared.Held.{Held}
 use Rattle.record.specs.declared.Found.{Found}
 use Rattle.record.specs.declared.Holding.{Holding}
-use Rattle.record.specs.declared.Reading.{Reading}
 use Rattle.record.specs.Header.{head_count, positive_count, naf_count}
 use Rattle.record.specs.Refusal.{refusal, shifted}
 use Rattle.record.specs.Result.{Result, accepted, refused, and_then}

@@ -3,7 +3,6 @@
 -- Assumes nothing.
 use Prim.Native.Nat.{ℕ, zero, suc, ◌+◌, ◌*◌, ◌≤◌, ◌<◌}
 use native.Mathlib.Omega.{arith}
-use native.Mathlib.Nat.{add-zero}
 use mathlib.Core.Path.{◌≡◌, refl, sym, ◌∙◌, ap, ap₂, subst}
 use mathlib.Core.Bool.{Bool, true, false, not, ◌&&◌, true≢false}
 use mathlib.Core.Logic.{◌⊎◌, inl, inr}
@@ -21,9 +20,8 @@ use Rattle.literal.specs.declared.Literal.{Literal}
 use Rattle.literal.specs.declared.Literal.TheVariants.{Signed, Defeated, Derived, RuleDefeated}
 use Rattle.literal.specs.Literal.{Decoded, Valid, Wrong, encoded, decoded, takes, in_range}
 use Rattle.literal.proofs.Laws.Literal.{encoded-decoded}
-use Rattle.semantics.specs.Set.{each_of, same_tag, same_signed}
+use Rattle.semantics.specs.Set.{each_of, same_signed}
 use Rattle.semantics.specs.Rule.{Rule, strict, defeasible, head, positive, naf}
-use Rattle.semantics.specs.Expansion.{Override, Opposition}
 use Rattle.semantics.specs.Item.{Item, rule, override, opposition}
 use Rattle.semantics.specs.Form.{keeps_counts, keeps_literals, keeps_tag, keeps_rule, keeps_override, keeps_opposition, keeps_item}
 use Rattle.semantics.proofs.Laws.Tests.{both, first, second, along, all_append}

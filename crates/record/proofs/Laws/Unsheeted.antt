@@ -10,7 +10,7 @@ use lib.Dec.{T}
 use lib.ListN.{length}
 use Rattle.literal.specs.declared.Limits.{Limits}
 use Rattle.semantics.specs.Set.{each_of}
-use Rattle.semantics.specs.Rule.{Rule, Program}
+use Rattle.semantics.specs.Rule.{Program}
 use Rattle.semantics.specs.Expansion.{Override, Opposition, made, unless_before, appended}
 use Rattle.semantics.specs.Item.{Item, rule, override, opposition, rules, overrides, oppositions, appended_by, expanded}
 use Rattle.semantics.specs.Form.{keeps_rule, keeps_item}

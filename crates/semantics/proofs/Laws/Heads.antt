@@ -9,7 +9,7 @@ use Rattle.literal.specs.declared.Literal.TheVariants.{Signed}
 use Rattle.semantics.specs.Set.{LiteralSet, some_of, each_of, set_of}
 use Rattle.semantics.specs.Rule.{Rule, strict, defeasible, Program, head}
 use Rattle.semantics.specs.Meaning.{quotient, models, AnswerSet}
-use Rattle.semantics.proofs.Laws.Tests.{both, first, second, left, any-mem, any_found, all-intro, all-mem}
+use Rattle.semantics.proofs.Laws.Tests.{both, first, second, any-mem, any_found, all-intro, all-mem}
 use Rattle.semantics.proofs.Laws.Set.{set-of-mem, mem-set-of}
 use Rattle.semantics.proofs.Laws.Meaning.{Kept, answer-set-contains}
 use Rattle.semantics.proofs.Laws.Position.{At, models-at, at-models, at_mem}

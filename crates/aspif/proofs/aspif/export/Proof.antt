@@ -31,11 +31,13 @@ counted c = sym c.read_marking-read.ensures.0 ∙ c.in-Count.is
 
 export-marked-requires : tie.Need-export_marked-requires
 export-marked-requires c κs =
+    let at-bits-2 = c.before.before.before.before.before in
+    let at-read_marking-read = at-bits-2.before in
     let a = c.args in
     let made = c.read_marking-read.ensures.1 in (
       c.requires,
       (
-        given a.lim a.s.now a.out.now c.requires.unsheeted (bytes c.before.before.before.before.before.before) _ (counted c.before.before.before),
+        given a.lim a.s.now a.out.now c.requires.unsheeted (bytes at-read_marking-read) _ (counted c.before.before.before),
         (made.1, λ w. made.0 _ c.in-Count.is (holds-placed c.requires w)),
       ),
     )
@@ -47,11 +49,14 @@ returns c =
 
 returns-2 : tie.Need-returns-in-Count
 returns-2 c =
+    let at-counts-in-Count = c.before.before.before.before.before in
+    let in-Count = at-counts-in-Count.before.before in
+    let at-read_marking-read = in-Count.before.before.before in
     let a = c.args in
     let none = c.requires.unsheeted in
-    let read = bytes c.before.before.before.before.before.before.before.before.before.before in
-    given-met a.lim a.s.now a.out.now none read _ (counted c.before.before.before.before.before.before.before)
-    (c.export_marked.ensures (given a.lim a.s.now a.out.now none read _ (counted c.before.before.before.before.before.before.before)))
+    let read = bytes at-read_marking-read in
+    given-met a.lim a.s.now a.out.now none read _ (counted in-Count)
+    (c.export_marked.ensures (given a.lim a.s.now a.out.now none read _ (counted in-Count)))
 
 pub export_spec : {M : Type 1} → statement M
 export_spec =

@@ -55,14 +55,16 @@ short c = omega (arith, ap length (held c).bytes, (held c).asked.short)
 
 add_total : tie.Need-overflow_add-total invariant-loop decreases-loop
 add_total c =
-    omega (arith, (here c.before.before.before.before).made.short, c.measure_rule-total.ensures.short, (next c.before).fits, short c.before.before.before.before)
+    let at-loop-at = c.before.before.before.before in
+    omega (arith, (here at-loop-at).made.short, c.measure_rule-total.ensures.short, (next c.before).fits, short at-loop-at)
 
 loop-again : tie.Need-loop-at-preserved invariant-loop decreases-loop
 loop-again c =
+    let at-loop-at = c.before.before.before.before.before in
     let long = c.measure_rule-total in
     let l = c.loop-at in
-    pass-next l.invariant c.loop-at-test.true (part c.before.before.before.before.before) (part_to_end (program c.before.before.before.before.before) l.at) _ c.record_size-at.ensures
-    (Measured (marks c.before.before.before.before.before) (l.at + c.record_size-at.result) (l.total + long.result))
+    pass-next l.invariant c.loop-at-test.true (part at-loop-at) (part_to_end (program at-loop-at) l.at) _ c.record_size-at.ensures
+    (Measured (marks at-loop-at) (l.at + c.record_size-at.result) (l.total + long.result))
     (λ w a m. measured-next m a.made long.result _ long.ensures c.record_size-at.ensures)
 
 returns : tie.Need-returns invariant-loop decreases-loop

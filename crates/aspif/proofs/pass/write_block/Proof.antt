@@ -50,7 +50,9 @@ copy-requires c κs =
 
 add-end : tie.Need-overflow_add-result
 add-end c =
-    omega (arith, room c.before.before.before.before.before.before)
+    let at-text = c.before.before.before.before.before in
+    let at-put_lines-n = at-text.before in
+    omega (arith, room at-put_lines-n)
 
 returns : tie.Need-returns
 returns c =

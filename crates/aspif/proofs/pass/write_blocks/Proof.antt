@@ -60,25 +60,35 @@ next c w =
 
 write-block-requires : tie.Need-write_block-made-requires invariant-loop decreases-loop
 write-block-requires c κs =
+    let at-block_rules-count = c.before.before.before.before.before in
+    let at-loop-left = at-block_rules-count.before.before in
     let inv = c.loop-left.invariant in
     let pre = c.requires in
-    let a = here c.before.before.before.before.before.before.before (held c.before.before.before.before.before.before.before) in
-    let b = next c.before.before.before.before.before (held c.before.before.before.before.before.before.before) in
-    let lines = block-fits (marks c.before.before.before.before.before.before.before) a.gone b.block _ b.walk b.lines in
+    let a = here at-loop-left (held at-loop-left) in
+    let b = next at-block_rules-count (held at-loop-left) in
+    let lines = block-fits (marks at-loop-left) a.gone b.block _ b.walk b.lines in
     let masks = inv.0 ∙ pre.1.1.1.0 in
     let numbers = inv.1 ∙ pre.1.1.1.1.0 in
     let text = inv.2 ∙ pre.1.1.1.1.1 in
     let few = c.block_rules-count.ensures.1.1 in
-    let fits = (held c.before.before.before.before.before.before.before).asked.fits in
+    let fits = (held at-loop-left).asked.fits in
     (few, (b.records, (b.rooms, (pre.1.0, (pre.1.1.0, (masks, (numbers, (text, omega (arith, lines, fits, a.made.lines.next, inv.3)))))))))
 
 add_at : tie.Need-overflow_add-at invariant-loop decreases-loop
 add_at c =
-    let w = held c.before.before.before.before.before.before.before.before.before.before.before.before.before.before.before.before.before in
-    omega (arith, walk-open (next c.before.before.before.before.before.before.before.before.before.before.before.before.before.before.before w).walk, c.write_block-made.ensures.0, ap length w.bytes, w.asked.counted.numberable.short)
+    let at-slice_known-in-loop-left-2 = c.before.before.before.before.before in
+    let at-write_block-arg-in-loop-left-4 = at-slice_known-in-loop-left-2.before.before.before.before.before in
+    let at-block_rules-count = at-write_block-arg-in-loop-left-4.before.before.before.before.before in
+    let at-loop-left = at-block_rules-count.before.before in
+    let w = held at-loop-left in
+    omega (arith, walk-open (next at-block_rules-count w).walk, c.write_block-made.ensures.0, ap length w.bytes, w.asked.counted.numberable.short)
 
 loop-again : tie.Need-loop-left-preserved invariant-loop decreases-loop
 loop-again c =
+    let at-slice_known-in-loop-left-2 = c.before.before.before.before.before in
+    let at-write_block-arg-in-loop-left-4 = at-slice_known-in-loop-left-2.before.before.before.before.before in
+    let at-block_rules-count = at-write_block-arg-in-loop-left-4.before.before.before.before.before in
+    let at-loop-left = at-block_rules-count.before.before in
     let inv = c.loop-left.invariant in
     let made = c.write_block-made.ensures in
     let kept = c.write_block-made.auto in (
@@ -87,7 +97,7 @@ loop-again c =
       kept.text ∙ inv.2,
       kept.out ∙ inv.3,
       λ w.
-          written-block (here c.before.before.before.before.before.before.before.before.before.before.before.before.before.before.before.before.before w) (next c.before.before.before.before.before.before.before.before.before.before.before.before.before.before.before w) (omega (arith, w.asked.fits)) c.block_rules-count.ensures.1.0 made.0 made.1,
+          written-block (here at-loop-left w) (next at-block_rules-count w) (omega (arith, w.asked.fits)) c.block_rules-count.ensures.1.0 made.0 made.1,
     )
 
 returns : tie.Need-returns invariant-loop decreases-loop

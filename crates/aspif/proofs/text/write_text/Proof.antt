@@ -30,11 +30,16 @@ rules-end c =
 
 write-behind-requires : tie.Need-write_behind-end-requires
 write-behind-requires c κs =
-    (c.requires.1, omega (arith, room c.before.before.before.before.before.before.before.before, rules-end c.before.before.before))
+    let at-slice_known-2 = c.before.before.before.before.before in
+    let at-write_first-arg = at-slice_known-2.before.before.before in
+    (c.requires.1, omega (arith, room at-write_first-arg, rules-end c.before.before.before))
 
 write-last-requires : tie.Need-write_last-requires
 write-last-requires c κs =
-    omega (arith, room c.before.before.before.before.before.before.before.before.before.before.before.before, rules-end c.before.before.before.before.before.before.before, c.write_behind-end.ensures.next)
+    let at-slice_known-3 = c.before.before.before.before.before in
+    let at-write_rules-behind = at-slice_known-3.before.before in
+    let at-write_first-arg = at-write_rules-behind.before.before.before.before.before in
+    omega (arith, room at-write_first-arg, rules-end at-write_rules-behind, c.write_behind-end.ensures.next)
 
 returns : tie.Need-returns
 returns c w =

@@ -26,22 +26,49 @@ put-byte-requires : tie.Need-put_byte-requires
 put-byte-requires c κs = omega (arith, long c.before, c.requires.1)
 
 put-word-requires : tie.Need-put_word-letter-requires
-put-word-requires c κs = omega (arith, long c.before.before.before.before.before)
+put-word-requires c κs =
+    let at-count_figures-long = c.before.before.before.before.before in
+    omega (arith, long at-count_figures-long)
 
 put-word-requires-2 : tie.Need-put_word-atom-requires
-put-word-requires-2 c κs = omega (arith, long c.before.before.before.before.before.before.before.before.before.before)
+put-word-requires-2 c κs =
+    let at-put_word-arg = c.before.before.before.before.before in
+    let at-count_figures-long = at-put_word-arg.before.before.before.before.before in
+    omega (arith, long at-count_figures-long)
 
 write-decimal-requires : tie.Need-write_decimal-count-requires
-write-decimal-requires c κs = omega (arith, long c.before.before.before.before.before.before.before.before.before.before.before.before.before.before)
+write-decimal-requires c κs =
+    let at-put_word-arg-2 = c.before.before.before.before.before in
+    let at-slice_known-2 = at-put_word-arg-2.before.before.before.before.before in
+    let at-count_figures-long = at-slice_known-2.before.before.before.before in
+    omega (arith, long at-count_figures-long)
 
 put-word-requires-3 : tie.Need-put_word-number-requires
-put-word-requires-3 c κs = omega (arith, long c.before.before.before.before.before.before.before.before.before.before.before.before.before.before.before.before.before.before)
+put-word-requires-3 c κs =
+    let at-slice_known-4 = c.before.before.before.before.before in
+    let at-slice_known-3 = at-slice_known-4.before.before.before.before.before in
+    let at-out = at-slice_known-3.before.before.before.before.before in
+    let at-count_figures-long = at-out.before.before.before in
+    omega (arith, long at-count_figures-long)
 
 write-field-requires : tie.Need-write_field-end-requires
-write-field-requires c κs = omega (arith, long c.before.before.before.before.before.before.before.before.before.before.before.before.before.before.before.before.before.before.before.before.before.before)
+write-field-requires c κs =
+    let at-slice_known-5 = c.before.before.before.before.before in
+    let at-out-3 = at-slice_known-5.before.before.before.before.before in
+    let at-out-2 = at-out-3.before.before.before.before.before in
+    let at-put_byte = at-out-2.before.before.before.before.before in
+    let at-count_figures-long = at-put_byte.before.before in
+    omega (arith, long at-count_figures-long)
 
 put-end-requires : tie.Need-put_end-requires
-put-end-requires c κs = omega (arith, long c.before.before.before.before.before.before.before.before.before.before.before.before.before.before.before.before.before.before.before.before.before.before.before.before.before.before)
+put-end-requires c κs =
+    let at-slice_known-6 = c.before.before.before.before.before in
+    let at-out-4 = at-slice_known-6.before.before.before.before.before in
+    let at-put_word-atom = at-out-4.before.before.before.before.before in
+    let at-put_word-letter = at-put_word-atom.before.before.before.before.before in
+    let at-put_byte-arg = at-put_word-letter.before.before.before.before.before in
+    let at-count_figures-long = at-put_byte-arg.before in
+    omega (arith, long at-count_figures-long)
 
 returns : tie.Need-returns
 returns c =

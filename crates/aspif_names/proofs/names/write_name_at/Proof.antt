@@ -35,7 +35,9 @@ write-name-requires c κs =
     (c.requires.0, room_by (some c.before) c.args.to _ c.requires.1.1)
 
 returns : tie.Need-returns-then-is_marked
-returns c = wrote_by (some c.before.before.before.before) c.write_name.ensures
+returns c =
+    let at-number_at-n = c.before.before.before.before in
+    wrote_by (some at-number_at-n) c.write_name.ensures
 
 returns-2 : tie.Need-returns
 returns-2 c =

@@ -25,22 +25,51 @@ put-word-requires : tie.Need-put_word-kind-requires
 put-word-requires c κs = omega (arith, long c.before.before.before)
 
 put-word-requires-2 : tie.Need-put_word-heads-requires
-put-word-requires-2 c κs = omega (arith, long c.before.before.before.before.before.before.before)
+put-word-requires-2 c κs =
+    let at-slice_known-2 = c.before.before.before.before.before in
+    let at-put_byte = at-slice_known-2.before.before in
+    omega (arith, long at-put_byte)
 
 put-word-requires-3 : tie.Need-put_word-weights-requires
-put-word-requires-3 c κs = omega (arith, long c.before.before.before.before.before.before.before.before.before.before.before)
+put-word-requires-3 c κs =
+    let at-slice_known-3 = c.before.before.before.before.before in
+    let at-out = at-slice_known-3.before.before.before.before.before in
+    let at-put_byte = at-out.before in
+    omega (arith, long at-put_byte)
 
 put-word-requires-4 : tie.Need-put_word-count-requires
-put-word-requires-4 c κs = omega (arith, long c.before.before.before.before.before.before.before.before.before.before.before.before.before.before.before)
+put-word-requires-4 c κs =
+    let at-slice_known-4 = c.before.before.before.before.before in
+    let at-out-2 = at-slice_known-4.before.before.before.before.before in
+    let at-put_byte = at-out-2.before.before.before.before.before in
+    omega (arith, long at-put_byte)
 
 write-field-requires : tie.Need-write_field-first-requires
-write-field-requires c κs = omega (arith, long c.before.before.before.before.before.before.before.before.before.before.before.before.before.before.before.before.before.before.before)
+write-field-requires c κs =
+    let at-slice_known-5 = c.before.before.before.before.before in
+    let at-out-3 = at-slice_known-5.before.before.before.before.before in
+    let at-put_word-kind = at-out-3.before.before.before.before.before in
+    let at-put_byte = at-put_word-kind.before.before.before.before in
+    omega (arith, long at-put_byte)
 
 write-field-requires-2 : tie.Need-write_field-second-requires
-write-field-requires-2 c κs = omega (arith, long c.before.before.before.before.before.before.before.before.before.before.before.before.before.before.before.before.before.before.before.before.before.before.before)
+write-field-requires-2 c κs =
+    let at-slice_known-6 = c.before.before.before.before.before in
+    let at-out-4 = at-slice_known-6.before.before.before.before.before in
+    let at-put_word-heads = at-out-4.before.before.before.before.before in
+    let at-put_word-arg = at-put_word-heads.before.before.before.before.before in
+    let at-put_byte = at-put_word-arg.before.before.before in
+    omega (arith, long at-put_byte)
 
 put-end-requires : tie.Need-put_end-requires
-put-end-requires c κs = omega (arith, long c.before.before.before.before.before.before.before.before.before.before.before.before.before.before.before.before.before.before.before.before.before.before.before.before.before.before.before)
+put-end-requires c κs =
+    let at-slice_known-7 = c.before.before.before.before.before in
+    let at-out-5 = at-slice_known-7.before.before.before.before.before in
+    let at-put_word-weights = at-out-5.before.before.before.before.before in
+    let at-put_word-arg-2 = at-put_word-weights.before.before.before.before.before in
+    let at-slice_known-2 = at-put_word-arg-2.before.before.before.before.before in
+    let at-put_byte = at-slice_known-2.before.before in
+    omega (arith, long at-put_byte)
 
 returns : tie.Need-returns
 returns c =

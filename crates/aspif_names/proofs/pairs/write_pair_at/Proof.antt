@@ -23,7 +23,9 @@ write-pair-requires c κs =
     room_by (some c.before) c.args.to _ c.requires.1.1
 
 returns : tie.Need-returns-then-is_pair
-returns c = wrote_by (some c.before.before.before.before) c.write_pair.ensures
+returns c =
+    let at-number_at-m = c.before.before.before.before in
+    wrote_by (some at-number_at-m) c.write_pair.ensures
 
 returns-2 : tie.Need-returns
 returns-2 c =

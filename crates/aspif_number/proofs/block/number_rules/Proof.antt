@@ -43,33 +43,44 @@ next c =
     let p = c.requires in
     numbering-more c.loop-done.invariant p.0 c.loop-done-test.true (here c.before) (told c.before) p.1.0
 
-counted : (c : tie.After-count_literals-count invariant-loop decreases-loop) → c.count_literals-count.result ≡ literal_count (here c.before.before.before.before.before.before)
+counted : (c : tie.After-count_literals-count invariant-loop decreases-loop) → (let in-loop-done = c.before.before.before.before.before in let at-loop-done = in-loop-done.before in c.count_literals-count.result ≡ literal_count (here at-loop-done))
 counted c = c.count_literals-count.ensures.0
 
 few : (c : tie.After-count_literals-count invariant-loop decreases-loop)
     → c.loop-done.k + c.count_literals-count.result ≤ 64 * c.args.rules
-few c = omega (arith, counted c, (next c.before.before.before.before.before).few)
+few c =
+    let in-loop-done = c.before.before.before.before.before in
+    omega (arith, counted c, (next in-loop-done).few)
 
 gather-run-requires : tie.Need-gather_run-requires invariant-loop decreases-loop
 gather-run-requires c κs =
+    let at-shared_slice_known-in-loop-done = c.before.before.before.before.before in
+    let in-loop-done = at-shared_slice_known-in-loop-done.before.before in
+    let at-loop-done = in-loop-done.before in
     let b = c.loop-done.invariant in
-    let n = next c.before.before.before.before.before.before.before in
+    let n = next in-loop-done in
     let p = c.requires.1.1 in (
       omega (arith, counted c.before.before, n.whole),
       (
-        room-told (here c.before.before.before.before.before.before.before.before) 7 _ _ (counted c.before.before) _ n.room,
+        room-told (here at-loop-done) 7 _ _ (counted c.before.before) _ n.room,
         (p.0, (p.1.0, (omega (arith, few c.before.before, b.same-masks, p.1.1.0), omega (arith, few c.before.before, b.same_numbers, p.1.1.1)))),
       ),
     )
 
 add-k : tie.Need-overflow_add-k invariant-loop decreases-loop
 add-k c =
-    omega (arith, few c.before.before.before.before.before.before.before, c.requires.1.1.1.1.0)
+    let at-gather_run-arg-in-loop-done = c.before.before.before.before.before in
+    let at-count_literals-count = at-gather_run-arg-in-loop-done.before.before in
+    omega (arith, few at-count_literals-count, c.requires.1.1.1.1.0)
 
 loop-again : tie.Need-loop-done-preserved invariant-loop decreases-loop
 loop-again c =
+    let at-gather_run = c.before.before.before.before.before in
+    let at-count_literals-count = at-gather_run.before.before.before in
+    let in-loop-done = at-count_literals-count.before.before.before.before.before in
+    let at-loop-done = in-loop-done.before in
     let kept = c.gather_run.auto in
-    numbering-next c.loop-done.invariant c.requires.0 c.loop-done-test.true (here c.before.before.before.before.before.before.before.before.before.before.before.before.before.before) (told c.before.before.before.before.before.before.before.before.before.before.before.before.before.before) _ (counted c.before.before.before.before.before.before.before.before)
+    numbering-next c.loop-done.invariant c.requires.0 c.loop-done-test.true (here at-loop-done) (told at-loop-done) _ (counted at-count_literals-count)
     _ _ kept.masks kept.numbers c.gather_run.ensures _ c.record_size-at.ensures
 
 -- the arrays have room for all that was gathered
@@ -91,16 +102,36 @@ same-length-2 c =
 
 returns : tie.Need-returns invariant-loop decreases-loop
 returns c =
-    numbering-end c.loop-done.invariant c.requires.0 c.loop-done-test.false (room c.before.before.before.before).1 _
+    let at-loop-done = c.before.before.before.before in
+    numbering-end c.loop-done.invariant c.requires.0 c.loop-done-test.false (room at-loop-done).1 _
     c.finish_numbers.auto.numbers c.finish_numbers.ensures
+
+bounds-here-6 : tie.Need-bounds-here-6 invariant-loop decreases-loop
+bounds-here-6 c =
+    let in-loop-done = c.before.before.before.before in
+    omega (arith, (next in-loop-done).whole)
+
+record_size-at-requires : tie.Need-record_size-at-requires invariant-loop decreases-loop
+record_size-at-requires c κs =
+    let at-gather_run-arg-in-loop-done = c.before.before.before.before.before in
+    let at-shared_slice_known-in-loop-done = at-gather_run-arg-in-loop-done.before.before.before.before.before in
+    let in-loop-done = at-shared_slice_known-in-loop-done.before.before in
+    omega (arith, (next in-loop-done).whole)
+
+overflow_add-at : tie.Need-overflow_add-at invariant-loop decreases-loop
+overflow_add-at c =
+    let at-gather_run = c.before.before.before.before.before in
+    let at-shared_slice_known-in-loop-done-2 = at-gather_run.before.before.before.before.before in
+    let in-loop-done = at-shared_slice_known-in-loop-done-2.before.before.before in
+    omega (arith, c.record_size-at.ensures, (next in-loop-done).fits)
 
 pub number_rules_spec : {M : Type 1} → statement M
 number_rules_spec =
     tie.close (tie.spec invariant-loop decreases-loop loop-holds (λ c. omega (arith, (next c).fits)) (λ c. omega (arith, (next c).fits)) (λ c. search rules)
     (λ c. omega (arith, (next c.before.before).whole)) (λ c. omega (arith, (next c.before.before.before).whole))
-    (λ c. omega (arith, (next c.before.before.before.before).whole)) (λ c κs. search rules) gather-run-requires add-k
-    (λ c κs. omega (arith, (next c.before.before.before.before.before.before.before.before.before.before.before.before).whole))
-    (λ c. omega (arith, c.record_size-at.ensures, (next c.before.before.before.before.before.before.before.before.before.before.before.before.before).fits))
+    bounds-here-6 (λ c κs. search rules) gather-run-requires add-k
+    record_size-at-requires
+    overflow_add-at
     (λ c. omega (arith, c.loop-done-test.true))
     (λ c. omega (arith, c.loop-done-test.true)) loop-again finish-numbers-requires
     (λ c. c.loop-done.invariant.same-masks) same-length-2 returns)

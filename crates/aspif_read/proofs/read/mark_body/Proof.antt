@@ -21,17 +21,21 @@ returns c =
 
 returns-2 : tie.Need-returns-in-Refused
 returns-2 c =
+    let at-mark_literals-run = c.before.before.before.before.before in
+    let at-count_literals-count = at-mark_literals-run.before.before.before.before in
     let a = c.args in
     let made = c.mark_literals-run.ensures in
-    (sym (wrong-step a.lim a.t.now _ (counted c.before.before.before.before.before.before.before.before.before) c.if-t-size.false _ made.0 _ c.in-Refused.is), (tt, made.1.1))
+    (sym (wrong-step a.lim a.t.now _ (counted at-count_literals-count) c.if-t-size.false _ made.0 _ c.in-Refused.is), (tt, made.1.1))
 
 returns-3 : tie.Need-returns
 returns-3 c =
+    let at-mark_literals-run = c.before.before.before.before.before in
+    let at-count_literals-count = at-mark_literals-run.before.before.before.before in
     let a = c.args in
     let made = c.mark_literals-run.ensures in
     let right = c.in_default.is in (
-      sym (right-step a.lim a.t.now _ (counted c.before.before.before.before.before.before.before.before.before) c.if-t-size.false _ made.0 right),
-      (right-marked a.lim a.t.now _ (counted c.before.before.before.before.before.before.before.before.before) a.bits.now _ (made.1.0 right), made.1.1),
+      sym (right-step a.lim a.t.now _ (counted at-count_literals-count) c.if-t-size.false _ made.0 right),
+      (right-marked a.lim a.t.now _ (counted at-count_literals-count) a.bits.now _ (made.1.0 right), made.1.1),
     )
 
 pub mark_body_spec : {M : Type 1} → statement M

@@ -62,17 +62,24 @@ more c =
 
 loop-again : tie.Need-loop-left-preserved invariant-loop decreases-loop
 loop-again c =
+    let at-mark_place-arg-in-loop-left = c.before.before.before.before.before in
+    let at-place_at-i = at-mark_place-arg-in-loop-left.before.before in
     let made = c.mark_place.ensures in
-    marking-next c.loop-left.invariant (more c) (right c.before.before.before.before.before.before.before) _ c.place_at-i.ensures _ _ made.0 made.1
+    marking-next c.loop-left.invariant (more c) (right at-place_at-i) _ c.place_at-i.ensures _ _ made.0 made.1
 
 returns-2 : tie.Need-returns invariant-loop decreases-loop
 returns-2 c =
     let m = c.loop-left.invariant in
     (sym (marking-right m c.loop-left-test.false), ((λ right. marking-gained m c.loop-left-test.false), m.tallied))
 
+shape_of-counts-then-not-is_literal : tie.Need-shape_of-counts-then-not-is_literal invariant-loop decreases-loop
+shape_of-counts-then-not-is_literal c =
+    let at-loop-left = c.before.before.before.before in
+    same-counts at-loop-left
+
 pub mark_literals_spec : {M : Type 1} → statement M
 mark_literals_spec =
     tie.close (tie.spec invariant-loop decreases-loop loop-holds (λ c. omega (arith, c.loop-left.invariant.fits)) (λ c. omega (arith, c.loop-left.invariant.fits))
-    (λ c. search rules) (λ c κs. search rules) (λ c. c.loop-left.invariant.same) (λ c. same-counts c.before.before.before.before) returns
+    (λ c. search rules) (λ c κs. search rules) (λ c. c.loop-left.invariant.same) shape_of-counts-then-not-is_literal returns
     place-at-requires mark-place-requires (λ c. omega (arith, c.loop-left.invariant.fits, more c)) (λ c. omega (arith, more c))
     (λ c. omega (arith, more c)) loop-again (λ c. c.loop-left.invariant.same) (λ c. same-counts c.before) returns-2)

@@ -31,9 +31,11 @@ mark-body-requires c κs =
 
 returns-2 : tie.Need-returns-in-Literals
 returns-2 c =
+    let at-mark_body-arg-in-Literals = c.before.before.before.before.before in
+    let in-Literals = at-mark_body-arg-in-Literals.before.before in
     let a = c.args in
     let made = c.mark_body.ensures in
-    (strict-step a.lim a.t.now _ _ (left c.before.before.before.before.before.before.before) c.requires.1.0 _ made.0, made.1)
+    (strict-step a.lim a.t.now _ _ (left in-Literals) c.requires.1.0 _ made.0, made.1)
 
 -- a form without sheets has no other mark
 returns-3 : tie.Need-returns-in-Other

@@ -56,35 +56,44 @@ hold-requires c κs =
     omega (arith, c.loop-size.invariant.few, c.loop-size.invariant.within)
 
 sized : (c : tie.In-Next invariant-loop decreases-loop)
-    → (6 ≤ c.in-Next.size) × (c.loop-size.at + c.in-Next.size ≤ length (source c.before.before.before.before.before.before.before.before.before.before))
+    → (let at-bits = c.before.before.before.before.before in let at-loop-size = at-bits.before.before.before.before.before in (6 ≤ c.in-Next.size) × (c.loop-size.at + c.in-Next.size ≤ length (source at-loop-size)))
 sized c =
-    going-size c.loop-size.invariant (part c.before.before.before.before.before.before.before.before.before.before) (here c.before.before.before.before.before.before.before.before.before.before) _ c.mark_record-step.ensures.0 _ c.hold-found.ensures _ _
+    let at-bits = c.before.before.before.before.before in
+    let at-loop-size = at-bits.before.before.before.before.before in
+    going-size c.loop-size.invariant (part at-loop-size) (here at-loop-size) _ c.mark_record-step.ensures.0 _ c.hold-found.ensures _ _
     c.in-Next.is
 
 loop-again : tie.Need-loop-size-preserved invariant-loop decreases-loop
 loop-again c =
+    let at-bits = c.before.before.before.before.before in
+    let at-loop-size = at-bits.before.before.before.before.before in
     let made = c.mark_record-step.ensures in
-    going_next c.loop-size.invariant (part c.before.before.before.before.before.before.before.before.before.before) (here c.before.before.before.before.before.before.before.before.before.before) _ made.0 _ c.hold-found.ensures (bytes c.before.before.before.before.before.before.before.before.before.before) c.requires.1.1.0 _ _
+    going_next c.loop-size.invariant (part at-loop-size) (here at-loop-size) _ made.0 _ c.hold-found.ensures (bytes at-loop-size) c.requires.1.1.0 _ _
     c.in-Next.is _ _ made.1.0 made.1.1
 
 -- the end
 returns-2 : tie.Need-returns-in-End invariant-loop decreases-loop
 returns-2 c =
+    let at-bits = c.before.before.before.before.before in
+    let at-loop-size = at-bits.before.before.before.before.before in
     let made = c.mark_record-step.ensures in
     let p = c.requires.1.1.1 in
     let g = c.loop-size.invariant in
     let end = c.in-End.is in (
-      sym (going-count g (part c.before.before.before.before.before.before.before.before.before.before) (here c.before.before.before.before.before.before.before.before.before.before) _ made.0 _ c.hold-found.ensures end),
+      sym (going-count g (part at-loop-size) (here at-loop-size) _ made.0 _ c.hold-found.ensures end),
       (
         (λ n counted w.
-            going-marks g (part c.before.before.before.before.before.before.before.before.before.before) (here c.before.before.before.before.before.before.before.before.before.before) _ made.0 _ c.hold-found.ensures (bytes c.before.before.before.before.before.before.before.before.before.before) end p.0 p.1.0 _ made.1.0 w),
+            going-marks g (part at-loop-size) (here at-loop-size) _ made.0 _ c.hold-found.ensures (bytes at-loop-size) end p.0 p.1.0 _ made.1.0 w),
         made.1.1,
       ),
     )
 
 add-t25 : tie.Need-overflow_add-result invariant-loop decreases-loop
 add-t25 c =
-    let placed = going-place c.loop-size.invariant (part c.before.before.before.before.before.before.before.before.before.before.before) (here c.before.before.before.before.before.before.before.before.before.before.before) _ c.mark_record-step.ensures.0 _ c.hold-found.ensures _
+    let at-slice_known-in-loop-size = c.before.before.before.before.before in
+    let at-mark_record-arg = at-slice_known-in-loop-size.before.before.before.before.before in
+    let at-loop-size = at-mark_record-arg.before in
+    let placed = going-place c.loop-size.invariant (part at-loop-size) (here at-loop-size) _ c.mark_record-step.ensures.0 _ c.hold-found.ensures _
     c.in-Refused.is in
     omega (arith, placed)
 
@@ -100,8 +109,11 @@ same-length-4 c =
 returns-3 : tie.Need-returns-in-Refused invariant-loop decreases-loop
 unfolding shifted
 returns-3 c =
+    let at-slice_known-in-loop-size = c.before.before.before.before.before in
+    let at-mark_record-arg = at-slice_known-in-loop-size.before.before.before.before.before in
+    let at-loop-size = at-mark_record-arg.before in
     let made = c.mark_record-step.ensures in (
-      sym (going-refused c.loop-size.invariant (part c.before.before.before.before.before.before.before.before.before.before.before) (here c.before.before.before.before.before.before.before.before.before.before.before) _ made.0 _ c.hold-found.ensures _ c.in-Refused.is),
+      sym (going-refused c.loop-size.invariant (part at-loop-size) (here at-loop-size) _ made.0 _ c.hold-found.ensures _ c.in-Refused.is),
       ((λ n counted w. let z : ◌≡◌ {A = ℕ} 0 1 = cc in absurd (omega (arith, z))), made.1.1),
     )
 

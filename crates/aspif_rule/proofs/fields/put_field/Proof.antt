@@ -15,12 +15,15 @@ short c = field-short c.args.naf c.args.n (omega arith)
 
 write-field-requires : tie.Need-write_field-requires
 write-field-requires c κs =
-    omega (arith, c.requires.1, short c.before.before.before.before)
+    let start = c.before.before.before.before in
+    omega (arith, c.requires.1, short start)
 
 returns : tie.Need-returns-then-n-ge1000000
 returns c =
+    let at-slice_known = c.before.before.before.before.before in
+    let start = at-slice_known.before.before in
     let w = c.write_field.ensures in
-    (begun-wrote (omega (arith, c.requires.1, short c.before.before.before.before.before.before.before)) w, omega (arith, w.next, short c.before.before.before.before.before.before.before))
+    (begun-wrote (omega (arith, c.requires.1, short start)) w, omega (arith, w.next, short start))
 
 mul-put-eight : tie.Need-overflow_mul-figures
 mul-put-eight c =

@@ -50,10 +50,15 @@ put-line-requires c κs =
 
 add-from : tie.Need-overflow_add-from invariant-loop decreases-loop
 add-from c =
-    omega (arith, c.count_literals-from.ensures.0, (ahead c.before.before.before.before.before.before.before.before.before).few, c.loop-i.invariant.1.few, c.requires.1.1.0, c.loop-i-test.true)
+    let at-text = c.before.before.before.before.before in
+    let in-loop-i = at-text.before.before.before.before in
+    omega (arith, c.count_literals-from.ensures.0, (ahead in-loop-i).few, c.loop-i.invariant.1.few, c.requires.1.1.0, c.loop-i-test.true)
 
 add_at : tie.Need-overflow_add-at invariant-loop decreases-loop
-add_at c = omega (arith, (ahead c.before.before.before.before.before.before.before.before.before.before).within, c.record_size-at.ensures)
+add_at c =
+    let at-slice_known-in-loop-i = c.before.before.before.before.before in
+    let in-loop-i = at-slice_known-in-loop-i.before.before.before.before.before in
+    omega (arith, (ahead in-loop-i).within, c.record_size-at.ensures)
 
 more : (c : tie.After-record_size-at invariant-loop decreases-loop)
     → c.loop-i.i < c.args.rules
@@ -61,20 +66,46 @@ more c = c.loop-i-test.true
 
 loop-again : tie.Need-loop-i-preserved invariant-loop decreases-loop
 loop-again c =
-    let line = c.put_line-next.ensures in
-    (
+    let at-slice_known-in-loop-i = c.before.before.before.before.before in
+    let in-loop-i = at-slice_known-in-loop-i.before.before.before.before.before in
+    let at-loop-i = in-loop-i.before in
+    let line = c.put_line-next.ensures in (
       omega (arith, more c),
-      lined-next c.loop-i.invariant.1 c.requires.1.0 (more c) (part c.before.before.before.before.before.before.before.before.before.before.before) (part_to_end (source c.before.before.before.before.before.before.before.before.before.before.before) c.loop-i.at) _ _ _ line.0 line.1
+      lined-next c.loop-i.invariant.1 c.requires.1.0 (more c) (part at-loop-i) (part_to_end (source at-loop-i) c.loop-i.at) _ _ _ line.0 line.1
           c.count_literals-from.ensures.0 c.record_size-at.ensures,
     )
 
 returns : tie.Need-returns invariant-loop decreases-loop
 returns c = let inv = c.loop-i.invariant in (lined-all inv.1 inv.0 c.loop-i-test.false).begun
 
+bounds-here-4 : tie.Need-bounds-here-4 invariant-loop decreases-loop
+bounds-here-4 c =
+    let at-here = c.before.before.before.before.before in
+    let in-loop-i = at-here.before in
+    omega (arith, (ahead in-loop-i).whole)
+
+bounds-here-5 : tie.Need-bounds-here-5 invariant-loop decreases-loop
+bounds-here-5 c =
+    let at-put_line-arg = c.before.before.before.before.before in
+    let in-loop-i = at-put_line-arg.before.before in
+    omega (arith, (ahead in-loop-i).whole)
+
+bounds-here-6 : tie.Need-bounds-here-6 invariant-loop decreases-loop
+bounds-here-6 c =
+    let at-put_line-next = c.before.before.before.before.before in
+    let in-loop-i = at-put_line-next.before.before.before in
+    omega (arith, (ahead in-loop-i).whole)
+
+record_size-at-requires : tie.Need-record_size-at-requires invariant-loop decreases-loop
+record_size-at-requires c κs =
+    let at-text = c.before.before.before.before.before in
+    let in-loop-i = at-text.before.before.before.before in
+    omega (arith, (ahead in-loop-i).whole)
+
 pub put_lines_spec : {M : Type 1} → statement M
 put_lines_spec =
     tie.close (tie.spec invariant-loop decreases-loop loop-holds (λ c. omega (arith, (ahead c).within)) (λ c. omega (arith, (ahead c).within))
-    (λ c. omega (arith, (ahead c).within)) put-line-requires (λ c. omega (arith, (ahead c.before.before.before.before.before.before).whole))
-    (λ c. omega (arith, (ahead c.before.before.before.before.before.before.before).whole)) (λ c. omega (arith, (ahead c.before.before.before.before.before.before.before.before).whole))
-    (λ c κs. search rules) add-from (λ c κs. omega (arith, (ahead c.before.before.before.before.before.before.before.before.before).whole)) add_at (λ c. omega (arith, more c)) (λ c. omega (arith, more c))
+    (λ c. omega (arith, (ahead c).within)) put-line-requires bounds-here-4
+    bounds-here-5 bounds-here-6
+    (λ c κs. search rules) add-from record_size-at-requires add_at (λ c. omega (arith, more c)) (λ c. omega (arith, more c))
     loop-again (λ c. c.loop-i.invariant.1.begun.same) returns)

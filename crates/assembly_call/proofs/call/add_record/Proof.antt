@@ -37,15 +37,18 @@ returns c =
 
 hold-record-requires : tie.Need-hold_record-requires
 hold-record-requires c κs =
-    (standing c.before.before.before.before.before.before.before, (not-false _ c.if-not-standing.false, size-accepted _ _ (sym (read c.before.before.before) ∙ c.in-Length.is)))
+    let else-not-standing = c.before.before.before.before.before in
+    let at-inspect_source-standing = else-not-standing.before.before in
+    (standing at-inspect_source-standing, (not-false _ c.if-not-standing.false, size-accepted _ _ (sym (read c.before.before.before) ∙ c.in-Length.is)))
 
 returns-2 : tie.Need-returns-in-Length
 returns-2 c = c.hold_record.ensures
 
 returns-3 : tie.Need-returns-in-Refused
 returns-3 c =
+    let at-inspect_source-standing = c.before.before.before.before.before in
     let a = c.args in
-    let w = active-state source assemblable-source a.state.now (bytes c.before.before.before.before.before) c.inspect_source-standing.result (standing c.before.before.before.before.before) (not-false _ c.if-not-standing.false) in
+    let w = active-state source assemblable-source a.state.now (bytes at-inspect_source-standing) c.inspect_source-standing.result (standing at-inspect_source-standing) (not-false _ c.if-not-standing.false) in
     refused-meets _ _ _ _ _ (add-refused source assemblable-source _ _ _ _ w a.rule.now _ (size-refused _ _ (sym (read c.before) ∙ c.in-Refused.is))) refl
 
 pub add_record_spec : {M : Type 1} → statement M

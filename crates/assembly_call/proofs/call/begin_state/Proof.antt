@@ -46,9 +46,10 @@ open-state-requires c κs = c.if-state-lim.false
 
 returns-3 : tie.Need-returns
 returns-3 c =
+    let else-state-lim = c.before.before.before.before.before in
     let a = c.args in
     keeps _ _ _ a.out.now
-    (begin-held source a.state.now a.out.now (long c.before.before.before.before.before) c.if-out-lt4.false
+    (begin-held source a.state.now a.out.now (long else-state-lim) c.if-out-lt4.false
     ∙ ap (λ st. record { answer = Reading.Count 0; state = st; buffer = a.out.now })
     (sym (c.open_state.ensures ∙ ap (λ F. encoded_stage F (opened [])) c.limits-lim.ensures)))
 

@@ -46,13 +46,18 @@ cast-write-end : tie.Need-overflow_cast-rules
 cast-write-end c = let w = active c.before in omega (arith, w.few, assemblable-source.rules)
 
 put-byte-requires : tie.Need-put_byte-requires
-put-byte-requires c κs = omega (arith, (active c.before.before.before.before.before.before).long)
+put-byte-requires c κs =
+    let else-out-bytes = c.before.before.before.before.before in
+    let else-not-standing = else-out-bytes.before in
+    omega (arith, (active else-not-standing).long)
 
 returns-3 : tie.Need-returns
 returns-3 c =
+    let at-out = c.before.before.before.before.before in
+    let else-not-standing = at-out.before.before.before.before in
     let h = c.inspect_source-standing.result in
     meets _ _ _ _
-    (close-held source assemblable-source _ _ _ _ (active c.before.before.before.before.before.before.before.before.before) c.if-out-bytes.false
+    (close-held source assemblable-source _ _ _ _ (active else-not-standing) c.if-out-bytes.false
     ∙ ap₂ (λ (x y : List ℕ). record { answer = Reading.Count h.rules; state = x; buffer = y }) (sym c.put_byte.ensures) (sym c.write_end.ensures))
 
 pub close_state_spec : {M : Type 1} → statement M

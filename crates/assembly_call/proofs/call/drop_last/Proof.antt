@@ -54,10 +54,12 @@ put-shape-requires c κs =
 
 returns-3 : tie.Need-returns
 returns-3 c =
+    let else-rules-eq0 = c.before.before.before.before.before in
+    let else-not-standing = else-rules-eq0.before in
     let h = c.inspect_source-standing.result in
     let st = c.args.state.now in
     keeps _ _ _ []
-    (drop-held source assemblable-source st [] _ _ (active c.before.before.before.before.before.before) (omega (arith, c.if-rules-eq0.false))
+    (drop-held source assemblable-source st [] _ _ (active else-not-standing) (omega (arith, c.if-rules-eq0.false))
     ∙ ap (λ (x : List ℕ). record { answer = Reading.Count (h.rules - 1); state = x; buffer = [] })
     (sym (c.put_shape.ensures ∙ ap (λ (F : Limits). with_shape F st (h.rules - 1) (h.rules - 1) 0 0) c.limits.ensures)))
 

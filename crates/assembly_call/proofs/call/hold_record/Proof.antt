@@ -44,37 +44,55 @@ copy-requires c κs = (omega (arith, (small c.before.before).fits), omega (arith
 
 heads-byte-requires : tie.Need-heads_byte-heads-requires
 heads-byte-requires c κs =
-    let w = small c.before.before.before.before.before in
+    let at-slice_known-2 = c.before.before.before.before.before in
+    let w = small at-slice_known-2 in
     (omega (arith, w.whole, w.fits), w.heads)
 
 read-body : tie.Need-bounds-rule-5
-read-body c = let w = small c.before.before.before.before.before.before.before in omega (arith, w.whole, w.fits)
+read-body c =
+    let at-copy-arg = c.before.before.before.before.before in
+    let at-slice_known-2 = at-copy-arg.before.before in
+    let w = small at-slice_known-2 in omega (arith, w.whole, w.fits)
 
 read-body-2 : tie.Need-bounds-rule-6
-read-body-2 c = let w = small c.before.before.before.before.before.before.before.before in omega (arith, w.whole, w.fits)
+read-body-2 c =
+    let at-copy = c.before.before.before.before.before in
+    let at-slice_known-2 = at-copy.before.before.before in
+    let w = small at-slice_known-2 in omega (arith, w.whole, w.fits)
 
 add_body : tie.Need-overflow_add-body
-add_body c = omega (arith, (small c.before.before.before.before.before.before.before.before).body)
+add_body c =
+    let at-copy = c.before.before.before.before.before in
+    let at-slice_known-2 = at-copy.before.before.before in
+    omega (arith, (small at-slice_known-2).body)
 
 add-rules : tie.Need-overflow_add-rules
-add-rules c = omega (arith, (active c.before.before.before.before.before.before.before.before).few, assemblable-source.rules)
+add-rules c =
+    let at-copy = c.before.before.before.before.before in
+    let at-slice_known-2 = at-copy.before.before.before in
+    omega (arith, (active at-slice_known-2).few, assemblable-source.rules)
 
 put-shape-requires : tie.Need-put_shape-requires
 put-shape-requires c κs =
-    let w = active c.before.before.before.before.before.before.before.before.before.before in
+    let at-slice_known-3 = c.before.before.before.before.before in
+    let at-slice_known-2 = at-slice_known-3.before.before.before.before.before in
+    let w = active at-slice_known-2 in
     let n = ap (λ (F : Limits). F.rules) c.limits.ensures in (
       omega (arith, w.few, assemblable-source.rules),
-      (omega (arith, (added c.before.before.before.before.before.before.before.before.before.before).room, n), omega (arith, w.long, n)),
+      (omega (arith, (added at-slice_known-2).room, n), omega (arith, w.long, n)),
     )
 
 returns-2 : tie.Need-returns
 unfolding shape_of
 returns-2 c =
+    let at-shared_slice_known-3 = c.before.before.before.before.before in
+    let at-copy = at-shared_slice_known-3.before.before.before.before.before in
+    let at-slice_known-2 = at-copy.before.before.before in
     let a = c.args in
     let n = a.held.rules in
     meets _ _ _ _
-    (add-held source assemblable-source a.state.now a.out.now n a.held.bytes (active c.before.before.before.before.before.before.before.before.before.before.before.before.before) a.rule.now a.size c.requires.1.1
-    c.if-out-end.false (added c.before.before.before.before.before.before.before.before.before.before.before.before.before).room
+    (add-held source assemblable-source a.state.now a.out.now n a.held.bytes (active at-slice_known-2) a.rule.now a.size c.requires.1.1
+    c.if-out-end.false (added at-slice_known-2).room
     ∙ ap₂ (λ (x y : List ℕ). record { answer = Reading.Count (n + 1); state = x; buffer = y })
     (sym (c.put_shape.ensures
     ∙ ap₂ (λ (F : Limits) (b : ℕ). with_shape F a.state.now (n + 1) n b (body_byte (shape_of a.rule.now))) c.limits.ensures c.heads_byte-heads.ensures))

@@ -49,15 +49,17 @@ shapes-right c = (tallied c.before.before).each ∙ sym c.is_within.ensures ∙ 
 
 is-clear-behind-requires : tie.Need-is_clear_behind-requires
 is-clear-behind-requires c κs =
-    let w = header c.before.before.before.before in
+    let else-not-is_headed = c.before.before.before.before in
+    let w = header else-not-is_headed in
     (c.requires, (omega (arith, w.count, count c.before.before.before), omega (arith, w.long)))
 
 -- and what stands behind them, if it is clear or not
 clear-is : (c : tie.After-is_clear_behind) → (let a = c.args in
     c.is_clear_behind.result ≡ clear_behind a.lim a.state.now (count_at a.state.now))
 clear-is c =
+    let at-get_number-rules = c.before.before.before.before in
     let a = c.args in
-    c.is_clear_behind.ensures ∙ ap (clear_behind a.lim a.state.now) (count c.before.before.before.before)
+    c.is_clear_behind.ensures ∙ ap (clear_behind a.lim a.state.now) (count at-get_number-rules)
 
 returns-3 : tie.Need-returns-then-not-is_clear_behind
 returns-3 c = c.stand_before-then-not-is_clear_behind.ensures ∙ clear_none _ _ (sym (clear-is c.before.before) ∙ c.if-not-is_clear_behind.true)
@@ -70,7 +72,9 @@ few : (c : tie.After-get_number-rules) → c.get_number-rules.result ≤ 256
 few c = omega (arith, (header c.before).count, count c, c.requires.rules)
 
 mul-bytes : tie.Need-overflow_mul-bytes
-mul-bytes c = omega (arith, few c.before.before.before.before.before)
+mul-bytes c =
+    let at-get_number-rules = c.before.before.before.before.before in
+    omega (arith, few at-get_number-rules)
 
 add-bytes : tie.Need-overflow_add-bytes
 add-bytes c = search rules
@@ -80,16 +84,25 @@ mul-bytes-2 c = search rules
 
 add-bytes-2 : tie.Need-overflow_add-bytes-2
 add-bytes-2 c =
-    let at-few = few c.before.before.before.before.before.before.before in
+    let at-is_within = c.before.before.before.before.before in
+    let at-get_number-rules = at-is_within.before.before in
+    let at-few = few at-get_number-rules in
     let small = add-bytes c in
     omega (arith, at-few, small)
 
 read-stage : tie.Need-bounds-state-0
-read-stage c = omega (arith, (header c.before.before.before.before.before.before.before.before.before).long)
+read-stage c =
+    let else-not-is_within = c.before.before.before.before.before in
+    let else-not-is_headed = else-not-is_within.before.before.before.before in
+    omega (arith, (header else-not-is_headed).long)
 
 returns-4 : tie.Need-returns
 returns-4 c =
-    said _ _ (is-header c.before.before.before.before.before.before.before.before.before) (shapes-right c.before.before.before.before.before) (is-clear c.before) _ (tallied c.before.before.before.before.before.before.before) _ (count c.before.before.before.before.before.before.before.before)
+    let else-not-is_within = c.before.before.before.before.before in
+    let at-tally_shapes-shapes = else-not-is_within.before.before in
+    let at-get_number-rules = at-tally_shapes-shapes.before in
+    let else-not-is_headed = at-get_number-rules.before in
+    said _ _ (is-header else-not-is_headed) (shapes-right else-not-is_within) (is-clear c.before) _ (tallied at-tally_shapes-shapes) _ (count at-get_number-rules)
 
 pub inspect_spec : {M : Type 1} → statement M
 inspect_spec =

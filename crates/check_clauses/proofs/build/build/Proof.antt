@@ -74,34 +74,54 @@ room c =
 -- the next clause is one at most
 few : (c : tie.After-clause_of-c invariant-loop decreases-loop) → c.clause_of-c.result.count ≤ 1
 few c =
+    let at-loop-at = c.before.before.before.before in
     let a = c.args in omega
-    (arith, ap (λ x. x.count) c.clause_of-c.ensures, one-clause (part c.before.before.before.before) a.set.now a.n)
+    (arith, ap (λ x. x.count) c.clause_of-c.ensures, one-clause (part at-loop-at) a.set.now a.n)
 
 returns : tie.Need-returns-then-is_broken invariant-loop decreases-loop
 returns c =
+    let at-shared_slice_known-in-loop-at = c.before.before.before.before.before in
+    let at-loop-at = at-shared_slice_known-in-loop-at.before in
     let l = c.loop-at in
-    built-broken (set_bytes c.before.before.before.before.before.before) l.invariant.3 c.loop-at-test.true (part c.before.before.before.before.before.before)
-    (part_to_end (source c.before.before.before.before.before.before) l.at) (part_bytes c.before.before.before.before.before.before)
+    built-broken (set_bytes at-loop-at) l.invariant.3 c.loop-at-test.true (part at-loop-at)
+    (part_to_end (source at-loop-at) l.at) (part_bytes at-loop-at)
     c.clause_of-c.result c.clause_of-c.ensures (sym c.is_broken.ensures ∙ c.if-is_broken.true)
 
 loop-again : tie.Need-loop-at-preserved invariant-loop decreases-loop
 loop-again c =
+    let at-part = c.before.before.before.before in
+    let at-loop-at = at-part.before.before.before in
     let clause = c.clause_of-c in
     let l = c.loop-at in
-    let whole = part_to_end (source c.before.before.before.before.before.before.before) l.at in
-    let space = room c.before.before.before.before in (
+    let whole = part_to_end (source at-loop-at) l.at in
+    let space = room at-part in (
       length-set l.bodies l.count clause.result.body ∙ l.invariant.0,
       length-set l.heads l.count clause.result.head ∙ l.invariant.1,
-      pass-next l.invariant.2 c.loop-at-test.true (part c.before.before.before.before.before.before.before) whole _ c.record_size-at.ensures
+      pass-next l.invariant.2 c.loop-at-test.true (part at-loop-at) whole _ c.record_size-at.ensures
           (Counted (l.number + 1) (l.count + clause.result.count))
           (λ w a m. counted_next m a.made clause.result.count (few c.before.before.before)),
-      built-next (set_bytes c.before.before.before.before.before.before.before) l.invariant.3 c.loop-at-test.true (part c.before.before.before.before.before.before.before) whole (part_bytes c.before.before.before.before.before.before.before) clause.result clause.ensures
+      built-next (set_bytes at-loop-at) l.invariant.3 c.loop-at-test.true (part at-loop-at) whole (part_bytes at-loop-at) clause.result clause.ensures
           (sym c.is_broken.ensures ∙ c.if-is_broken.false) space.bodies space.heads _ c.record_size-at.ensures,
     )
 
 returns-2 : tie.Need-returns invariant-loop decreases-loop
 returns-2 c =
     built-whole (set_bytes c.before.before) c.loop-at.invariant.3 c.loop-at.invariant.2 c.loop-at-test.false
+
+overflow_add-at : tie.Need-overflow_add-at invariant-loop decreases-loop
+overflow_add-at c =
+    let at-part = c.before.before.before.before in
+    omega (arith, (next at-part).fits, c.record_size-at.ensures)
+
+overflow_add-number : tie.Need-overflow_add-number invariant-loop decreases-loop
+overflow_add-number c =
+    let at-part = c.before.before.before.before in
+    omega (arith, (room at-part).number)
+
+loop-at-smaller : tie.Need-loop-at-smaller invariant-loop decreases-loop
+loop-at-smaller c =
+    let at-part = c.before.before.before.before in
+    omega (arith, (next at-part).fits, c.record_size-at.ensures)
 
 pub build_spec : {M : Type 1} → statement M
 build_spec =
@@ -120,6 +140,6 @@ build_spec =
     (λ c. omega (arith, (room c.before.before.before).heads)) (λ c. (room c.before.before.before).heads)
     (λ c. omega (arith, few c.before.before, (room c.before.before.before).bodies))
     (λ c κs. omega (arith, (next c.before.before.before).whole))
-    (λ c. omega (arith, (next c.before.before.before.before).fits, c.record_size-at.ensures)) (λ c. omega (arith, (room c.before.before.before.before).number))
-    (λ c. omega (arith, (next c.before.before.before.before).fits, c.record_size-at.ensures)) loop-again (λ c. c.loop-at.invariant.0)
+    overflow_add-at overflow_add-number
+    loop-at-smaller loop-again (λ c. c.loop-at.invariant.0)
     (λ c. c.loop-at.invariant.1) returns-2)

@@ -26,8 +26,10 @@ returns c =
 
 returns-2 : tie.Need-returns
 returns-2 c =
+    let at-struct_known = c.before.before.before.before.before in
+    let at-find_smaller-found = at-struct_known.before in
     let a = c.args in
-    decided-smaller a.set.now a.n a.out.now (found_first c.before.before.before.before.before.before) (not-false _ c.if-not-found.false)
+    decided-smaller a.set.now a.n a.out.now (found_first at-find_smaller-found) (not-false _ c.if-not-found.false)
     c.write_picked.ensures.0 c.write_picked.ensures.1
 
 pub decide_spec : {M : Type 1} → statement M

@@ -40,8 +40,9 @@ room c =
 
 check-program-requires : tie.Need-check_program-requires
 check-program-requires c κs =
+    let at-read_inputs-inputs = c.before.before.before.before in
     let a = c.args in
-    read-checking a.lim a.s.now a.k.now a.out.now c.requires.0.checked (given c.before.before.before) (bytes-k c.before.before.before.before) a.s.now (same c.before.before.before)
+    read-checking a.lim a.s.now a.k.now a.out.now c.requires.0.checked (given c.before.before.before) (bytes-k at-read_inputs-inputs) a.s.now (same c.before.before.before)
     (room c.before.before.before)
 
 returns : tie.Need-returns-in-Refused
@@ -51,9 +52,12 @@ returns c =
 
 returns-2 : tie.Need-returns-in-Read
 returns-2 c =
+    let at-bodies = c.before.before.before.before.before in
+    let in-Read = at-bodies.before.before.before.before.before in
+    let at-read_inputs-inputs = in-Read.before in
     let a = c.args in
-    read-met a.lim a.s.now a.k.now a.out.now c.requires.0.checked (given c.before.before.before.before.before.before.before.before.before.before) (bytes-k c.before.before.before.before.before.before.before.before.before.before.before) a.s.now (same c.before.before.before.before.before.before.before.before.before.before)
-    (room c.before.before.before.before.before.before.before.before.before.before) c.check_program.ensures
+    read-met a.lim a.s.now a.k.now a.out.now c.requires.0.checked (given in-Read) (bytes-k at-read_inputs-inputs) a.s.now (same in-Read)
+    (room in-Read) c.check_program.ensures
 
 pub check_spec : {M : Type 1} → statement M
 check_spec =

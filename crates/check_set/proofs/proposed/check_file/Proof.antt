@@ -47,22 +47,31 @@ room c =
 
 check-meant-requires : tie.Need-check_meant-requires
 check-meant-requires c κs =
+    let at-has_sheets = c.before.before.before.before.before in
+    let in-Read = at-has_sheets.before in
+    let at-read_inputs-both = in-Read.before in
     let a = c.args in (
-      file-checking a.lim a.s.now a.k.now a.out.now c.requires.0.checked (given c.before.before.before.before.before.before) (bytes-k c.before.before.before.before.before.before.before) c.requires.1 (bytes-s c.before.before.before.before.before.before.before)
-          (clausable-file a.lim c.requires.0 a.s.now (given c.before.before.before.before.before.before).file (bytes-s c.before.before.before.before.before.before.before) (given c.before.before.before.before.before.before).holds),
+      file-checking a.lim a.s.now a.k.now a.out.now c.requires.0.checked (given in-Read) (bytes-k at-read_inputs-both) c.requires.1 (bytes-s at-read_inputs-both)
+          (clausable-file a.lim c.requires.0 a.s.now (given in-Read).file (bytes-s at-read_inputs-both) (given in-Read).holds),
       λ long. absurd (omega arith),
     )
 
 returns : tie.Need-returns-then-has_sheets
 returns c =
+    let at-bodies = c.before.before.before.before.before in
+    let at-check_meant-arg = at-bodies.before.before.before.before.before in
+    let in-Read = at-check_meant-arg.before.before.before.before in
+    let at-read_inputs-both = in-Read.before in
     let a = c.args in
-    file-met a.lim a.s.now a.k.now a.out.now c.requires.0.checked (given c.before.before.before.before.before.before.before.before.before.before.before.before.before.before) (bytes-k c.before.before.before.before.before.before.before.before.before.before.before.before.before.before.before) c.requires.1 (bytes-s c.before.before.before.before.before.before.before.before.before.before.before.before.before.before.before)
-    (clausable-file a.lim c.requires.0 a.s.now (given c.before.before.before.before.before.before.before.before.before.before.before.before.before.before).file (bytes-s c.before.before.before.before.before.before.before.before.before.before.before.before.before.before.before) (given c.before.before.before.before.before.before.before.before.before.before.before.before.before.before).holds) c.check_meant.ensures
+    file-met a.lim a.s.now a.k.now a.out.now c.requires.0.checked (given in-Read) (bytes-k at-read_inputs-both) c.requires.1 (bytes-s at-read_inputs-both)
+    (clausable-file a.lim c.requires.0 a.s.now (given in-Read).file (bytes-s at-read_inputs-both) (given in-Read).holds) c.check_meant.ensures
 
 check-program-requires : tie.Need-check_program-requires
 check-program-requires c κs =
+    let in-Read = c.before.before.before.before.before in
+    let at-read_inputs-both = in-Read.before in
     let a = c.args in
-    read-checking a.lim a.s.now a.k.now a.out.now c.requires.0.checked (given c.before.before.before.before.before) (bytes-k c.before.before.before.before.before.before) a.s.now (same c.before.before.before)
+    read-checking a.lim a.s.now a.k.now a.out.now c.requires.0.checked (given in-Read) (bytes-k at-read_inputs-both) a.s.now (same c.before.before.before)
     (room c.before.before.before)
 
 returns-2 : tie.Need-returns-in-Refused
@@ -72,9 +81,13 @@ returns-2 c =
 
 returns-3 : tie.Need-returns-else-has_sheets
 returns-3 c =
+    let at-bodies-in-Read = c.before.before.before.before.before in
+    let else-has_sheets = at-bodies-in-Read.before.before.before.before.before in
+    let in-Read = else-has_sheets.before.before in
+    let at-read_inputs-both = in-Read.before in
     let a = c.args in
-    read-met a.lim a.s.now a.k.now a.out.now c.requires.0.checked (given c.before.before.before.before.before.before.before.before.before.before.before.before) (bytes-k c.before.before.before.before.before.before.before.before.before.before.before.before.before) a.s.now (same c.before.before.before.before.before.before.before.before.before.before)
-    (room c.before.before.before.before.before.before.before.before.before.before) c.check_program.ensures
+    read-met a.lim a.s.now a.k.now a.out.now c.requires.0.checked (given in-Read) (bytes-k at-read_inputs-both) a.s.now (same else-has_sheets)
+    (room else-has_sheets) c.check_program.ensures
 
 pub check_file_spec : {M : Type 1} → statement M
 check_file_spec =

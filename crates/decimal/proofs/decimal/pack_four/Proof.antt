@@ -1,6 +1,5 @@
 -- `decimal::pack_four` meets its contract: the bytes of the sum are the figures.
 -- Assumes nothing.
-use native.Mathlib.Omega.{arith}
 use borrow.Author.Rules.{rules}
 use Rattle.decimal.proofs.Laws.Packed.{tens-fit, packed-four}
 use Rattle.decimal.proofs.decimal.pack_four.Statement.{statement}

@@ -29,8 +29,7 @@ sub-to-2 c = let l = c.loop-left in omega (arith, length_more l.left c.loop-left
 
 loop-again : tie.Need-loop-left-preserved invariant-loop decreases-loop
 loop-again c =
-    let l = c.loop-left in
-    (
+    let l = c.loop-left in (
       omega (arith, length_more l.left c.loop-left-test.true, length-least (l.left / 10)),
       simp length-set (omega arith),
       simp length-set (omega arith),

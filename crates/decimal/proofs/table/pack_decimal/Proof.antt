@@ -25,9 +25,9 @@ many_is : (c : tie.After-row_known-1) → c.if-n-lt1000.many ≡ length (decimal
 many_is c =
     let n = c.args.n in
     elim c.if-n-lt1000.branch [
-      then-n-lt1000 w ↦
+      | then-n-lt1000 w ↦
           w.many-is ∙ three-counted (n % 1000) _ (omega arith) (low-is c.before.before.before.before) ∙ ap (λ (k : ℕ). length (decimal k)) (omega (arith, w.if-n-lt1000.true))
-    | else-n-lt1000 w ↦
+      | else-n-lt1000 w ↦
           omega (arith, w.many-is, three-counted (n / 1000) _ (omega arith) (high_is c.before.before.before.before), length-thousands n w.if-n-lt1000.false)
     ]
 

@@ -42,12 +42,20 @@ write-front-requires : tie.Need-write_front-held-requires
 write-front-requires c κs = (c.requires, empty-arrays tag_places sheet_places refl refl)
 
 write-behind-requires : tie.Need-write_behind-size-requires
-write-behind-requires c κs = appendable c.before.before.before.before.before.before.before.before.before.before.before.before.before.before.before c.requires
+write-behind-requires c κs =
+    let at-low-3 = c.before.before.before.before.before in
+    let at-lowers-2 = at-low-3.before.before.before.before.before in
+    let at-write_front-held = at-lowers-2.before.before.before.before.before in
+    appendable at-write_front-held c.requires
 
 returns : tie.Need-returns
 unfolding appendable
 returns c =
-    ((λ w. c.write_behind-size.ensures (appendable c.before.before.before.before.before.before.before.before.before.before.before.before.before.before.before.before.before.before.before.before w)), refl)
+    let at-lose = c.before.before.before.before.before in
+    let at-low-3 = at-lose.before.before.before.before.before in
+    let at-lowers-2 = at-low-3.before.before.before.before.before in
+    let at-write_front-held = at-lowers-2.before.before.before.before.before in
+    ((λ w. c.write_behind-size.ensures (appendable at-write_front-held w)), refl)
 
 pub write_normal_spec : {M : Type 1} → statement M
 write_normal_spec =

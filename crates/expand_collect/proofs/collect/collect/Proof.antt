@@ -62,17 +62,25 @@ long c =
 
 collect-item-requires : tie.Need-collect_item-h-requires invariant-loop decreases-loop
 collect-item-requires c κs =
-    let m = next c.before.before.before.before.before.before in
-    subst (λ (r : Room). Collectable (part c.before.before.before.before.before.before.before.before.before) r c.loop-at.h) (sym c.loop-at.invariant.0)
-    (collectable (room c.before.before.before.before.before.before.before.before.before) (asked c.before.before.before.before.before.before.before.before.before).items (here c.before.before.before.before.before.before.before.before.before).gone m.behind (held c.before.before.before.before.before.before.before.before.before) (part c.before.before.before.before.before.before.before.before.before) (asked c.before.before.before.before.before.before.before.before.before).asked
-    (here c.before.before.before.before.before.before.before.before.before).made m.whole m.the-item m.split m.starts (omega (arith, long c.before.before.before.before.before.before)))
+    let at-collect_item-arg = c.before.before.before.before.before in
+    let at-part = at-collect_item-arg.before in
+    let at-loop-at = at-part.before.before.before in
+    let m = next at-part in
+    subst (λ (r : Room). Collectable (part at-loop-at) r c.loop-at.h) (sym c.loop-at.invariant.0)
+    (collectable (room at-loop-at) (asked at-loop-at).items (here at-loop-at).gone m.behind (held at-loop-at) (part at-loop-at) (asked at-loop-at).asked
+    (here at-loop-at).made m.whole m.the-item m.split m.starts (omega (arith, long at-part)))
 
 loop-again : tie.Need-loop-at-preserved invariant-loop decreases-loop
 loop-again c =
+    let at-slice_known-in-loop-at-4 = c.before.before.before.before.before in
+    let at-up = at-slice_known-in-loop-at-4.before.before.before.before.before in
+    let at-collect_item-arg-in-loop-at-4 = at-up.before.before.before.before.before in
+    let at-part = at-collect_item-arg-in-loop-at-4.before.before.before.before.before in
+    let at-loop-at = at-part.before.before.before in
     let more = c.collect_item-h.ensures in
     let l = c.loop-at in (
       more.same ∙ l.invariant.0,
-      item-pass-next l.invariant.1 c.loop-at-test.true (part c.before.before.before.before.before.before.before.before.before.before.before.before.before.before.before.before.before.before.before.before.before.before.before) (part_to_end (source c.before.before.before.before.before.before.before.before.before.before.before.before.before.before.before.before.before.before.before.before.before.before.before) l.at) _ c.item_size-at.ensures
+      item-pass-next l.invariant.1 c.loop-at-test.true (part at-loop-at) (part_to_end (source at-loop-at) l.at) _ c.item_size-at.ensures
           (λ gone. Collected c.args.out.now gone _)
           (λ w b m. more.more c.args.out.now b.gone m.the-item m.starts.rest m.starts.bytes b.made),
     )
@@ -92,12 +100,37 @@ loop-holds c =
           (collected-none a.out.now a.up.now a.low.now a.lowers.now a.ones.now a.others.now c.requires.1),
     )
 
+item_size-at-requires : tie.Need-item_size-at-requires invariant-loop decreases-loop
+item_size-at-requires c κs =
+    let at-lowers = c.before.before.before.before.before in
+    let at-slice_known-in-loop-at = at-lowers.before.before.before.before.before in
+    let at-collect_item-arg-in-loop-at-3 = at-slice_known-in-loop-at.before.before.before.before.before in
+    let at-part = at-collect_item-arg-in-loop-at-3.before.before.before.before in
+    omega (arith, long at-part)
+
+overflow_add-at : tie.Need-overflow_add-at invariant-loop decreases-loop
+overflow_add-at c =
+    let at-slice_known-in-loop-at-4 = c.before.before.before.before.before in
+    let at-up = at-slice_known-in-loop-at-4.before.before.before.before.before in
+    let at-collect_item-arg-in-loop-at-4 = at-up.before.before.before.before.before in
+    let at-part = at-collect_item-arg-in-loop-at-4.before.before.before.before.before in
+    omega (arith, (next at-part).fits, c.item_size-at.ensures)
+
+loop-at-smaller : tie.Need-loop-at-smaller invariant-loop decreases-loop
+loop-at-smaller c =
+    let at-slice_known-in-loop-at-4 = c.before.before.before.before.before in
+    let at-up = at-slice_known-in-loop-at-4.before.before.before.before.before in
+    let at-collect_item-arg-in-loop-at-4 = at-up.before.before.before.before.before in
+    let at-part = at-collect_item-arg-in-loop-at-4.before.before.before.before.before in
+    let at-loop-at = at-part.before.before.before in
+    omega (arith, (next at-part).fits, c.item_size-at.ensures, size-least (part at-loop-at))
+
 pub collect_spec : {M : Type 1} → statement M
 collect_spec =
     tie.close (tie.spec invariant-loop decreases-loop loop-holds
     (λ c. omega (arith, opens c.before)) (λ c. omega (arith, opens c.before.before)) (λ c. omega (arith, opens c.before.before))
-    (λ c. search rules) collect-item-requires (λ c κs. omega (arith, long c.before.before.before.before.before.before.before.before.before.before.before.before.before.before.before.before.before.before.before))
-    (λ c. omega (arith, (next c.before.before.before.before.before.before.before.before.before.before.before.before.before.before.before.before.before.before.before.before).fits, c.item_size-at.ensures))
-    (λ c. omega (arith, (next c.before.before.before.before.before.before.before.before.before.before.before.before.before.before.before.before.before.before.before.before).fits, c.item_size-at.ensures, size-least (part c.before.before.before.before.before.before.before.before.before.before.before.before.before.before.before.before.before.before.before.before.before.before.before)))
+    (λ c. search rules) collect-item-requires item_size-at-requires
+    overflow_add-at
+    loop-at-smaller
     loop-again (kept (λ r. r.bytes)) (kept (λ r. r.uppers)) (kept (λ r. r.losers)) (kept (λ r. r.overrides)) (kept (λ r. r.ones)) (kept (λ r. r.others))
     returns)

@@ -26,13 +26,17 @@ other c = c.requires.other c.if-letter-eq79.false c.if-letter-eq88.false
 
 add-override-requires : tie.Need-add_override-requires
 add-override-requires c κs =
-    let o = over c.before.before.before.before.before in
+    let then-letter-eq79 = c.before.before.before.before.before in
+    let o = over then-letter-eq79 in
     (omega (arith, c.get_tag.ensures, o.upper), (omega (arith, c.get_tag-then-letter-eq79.ensures, o.lower), (o.room, o.few)))
 
 -- one override more is counted
 add-held : tie.Need-overflow_add-held
 add-held c =
-    omega (arith, (over c.before.before.before.before.before.before.before.before.before.before.before.before).few)
+    let at-up = c.before.before.before.before.before in
+    let at-get_tag-then-letter-eq79 = at-up.before.before.before.before.before in
+    let then-letter-eq79 = at-get_tag-then-letter-eq79.before.before in
+    omega (arith, (over then-letter-eq79).few)
 
 returns : tie.Need-returns-then-letter-eq79
 returns c =
@@ -43,7 +47,8 @@ returns c =
 
 add-opposition-requires : tie.Need-add_opposition-known-requires
 add-opposition-requires c κs =
-    let o = oppo c.before.before.before.before in
+    let then-letter-eq88 = c.before.before.before.before in
+    let o = oppo then-letter-eq88 in
     (omega (arith, ap place_of c.option_at.ensures, o.one), (omega (arith, ap place_of c.option_at-then-letter-eq88.ensures, o.other), (o.room_one, o.room_other)))
 
 returns-2 : tie.Need-returns-then-letter-eq88
@@ -60,11 +65,22 @@ copy-requires c κs =
 
 returns-3 : tie.Need-returns
 returns-3 c =
-    let r = other c.before.before.before.before.before in
+    let else-letter-eq88 = c.before.before.before.before.before in
+    let r = other else-letter-eq88 in
     let a = c.args in
     collects-rule a.part.now (state a.out.now a.up.now a.low.now a.lowers.now a.ones.now a.others.now a.h) _
     c.record_size-size.result c.if-letter-eq79.false c.if-letter-eq88.false c.record_size-size.ensures
     (omega (arith, c.record_size-size.ensures, r.room)) (omega (arith, c.record_size-size.ensures, r.whole)) c.copy.ensures
+
+overflow_add-end : tie.Need-overflow_add-end
+overflow_add-end c =
+    let else-letter-eq88 = c.before.before.before.before.before in
+    omega (arith, c.record_size-size.ensures, (other else-letter-eq88).room)
+
+overflow_add-count : tie.Need-overflow_add-count
+overflow_add-count c =
+    let else-letter-eq88 = c.before.before.before.before.before in
+    omega (arith, (other else-letter-eq88).few)
 
 pub collect_item_spec : {M : Type 1} → statement M
 collect_item_spec =
@@ -72,5 +88,5 @@ collect_item_spec =
     add-held (λ c. search rules) (λ c. search rules) (λ c. search rules) returns
     (λ c κs. omega (arith, (oppo c).long)) (λ c κs. omega (arith, (oppo c.before).long)) add-opposition-requires (λ c. search rules) (λ c. search rules)
     returns-2 (λ c κs. omega (arith, (other c).whole)) copy-requires
-    (λ c. omega (arith, c.record_size-size.ensures, (other c.before.before.before.before.before).room)) (λ c. omega (arith, (other c.before.before.before.before.before).few))
+    overflow_add-end overflow_add-count
     (λ c. search rules) returns-3)

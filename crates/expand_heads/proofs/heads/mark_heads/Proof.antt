@@ -48,26 +48,30 @@ next c = walk_more (here c.before.before.before).walk c.loop-at-test.true (part 
 
 mark-rule-requires : tie.Need-mark_rule-requires invariant-loop decreases-loop
 mark-rule-requires c κs =
+    let at-loop-at = c.before.before.before.before.before in
     let tags = length c.args.up.now in
     let options = length c.args.win.now in
     let m = next c.before.before in
     let l = c.loop-at in
-    let placing = places_of (part c.before.before.before.before.before) tags options m.the-rule (next-keeps (placed tags options) (asked c.before.before.before.before.before).asked m) m.starts in (
+    let placing = places_of (part at-loop-at) tags options m.the-rule (next-keeps (placed tags options) (asked at-loop-at).asked m) m.starts in (
       m.whole,
       (
-        (λ e. subst (λ (n : ℕ). Places (part c.before.before.before.before.before) tags n) (sym l.invariant.0) (placing e)),
+        (λ e. subst (λ (n : ℕ). Places (part at-loop-at) tags n) (sym l.invariant.0) (placing e)),
         (c.requires.1.0, omega (arith, l.invariant.0, l.invariant.1)),
       ),
     )
 
 loop-again : tie.Need-loop-at-preserved invariant-loop decreases-loop
 loop-again c =
+    let at-mark_rule = c.before.before.before.before.before in
+    let at-shared_slice_known-in-loop-at = at-mark_rule.before.before.before.before.before in
+    let at-loop-at = at-shared_slice_known-in-loop-at.before in
     let marked = c.mark_rule.ensures in
     let l = c.loop-at in
     let a = c.args in (
       marked.win_same ∙ l.invariant.0,
       marked.lose_same ∙ l.invariant.1,
-      pass-next l.invariant.2 c.loop-at-test.true (part c.before.before.before.before.before.before.before.before.before.before.before) (part_to_end (source c.before.before.before.before.before.before.before.before.before.before.before) l.at) _ c.record_size-at.ensures
+      pass-next l.invariant.2 c.loop-at-test.true (part at-loop-at) (part_to_end (source at-loop-at) l.at) _ c.record_size-at.ensures
           (λ gone. HeadsAdded gone a.up.now a.low.now a.win.now a.lose.now _ _)
           (λ w b m. heads-more m.the-rule m.starts b.made marked),
     )
@@ -75,13 +79,31 @@ loop-again c =
 returns : tie.Need-returns invariant-loop decreases-loop
 returns c w = along-end (c.loop-at.invariant.2 w) c.loop-at-test.false
 
+record_size-at-requires : tie.Need-record_size-at-requires invariant-loop decreases-loop
+record_size-at-requires c κs =
+    let at-mark_rule-arg-in-loop-at = c.before.before.before.before.before in
+    let at-part = at-mark_rule-arg-in-loop-at.before.before in
+    omega (arith, (next at-part).whole)
+
+overflow_add-at : tie.Need-overflow_add-at invariant-loop decreases-loop
+overflow_add-at c =
+    let at-mark_rule = c.before.before.before.before.before in
+    let at-part = at-mark_rule.before.before.before in
+    omega (arith, (next at-part).fits, c.record_size-at.ensures)
+
+loop-at-smaller : tie.Need-loop-at-smaller invariant-loop decreases-loop
+loop-at-smaller c =
+    let at-mark_rule = c.before.before.before.before.before in
+    let at-part = at-mark_rule.before.before.before in
+    omega (arith, (next at-part).fits, c.record_size-at.ensures)
+
 pub mark_heads_spec : {M : Type 1} → statement M
 mark_heads_spec =
     tie.close (tie.spec invariant-loop decreases-loop
     (λ c. let a = c.args in
     (refl, c.requires.1.1, pass-start a.s.now _ (heads-none a.up.now a.low.now a.win.now a.lose.now)))
     (λ c. omega (arith, opens c.before)) (λ c. omega (arith, opens c.before.before)) (λ c. omega (arith, opens c.before.before))
-    (λ c. search rules) mark-rule-requires (λ c κs. omega (arith, (next c.before.before.before.before.before.before.before).whole))
-    (λ c. omega (arith, (next c.before.before.before.before.before.before.before.before).fits, c.record_size-at.ensures))
-    (λ c. omega (arith, (next c.before.before.before.before.before.before.before.before).fits, c.record_size-at.ensures)) loop-again
+    (λ c. search rules) mark-rule-requires record_size-at-requires
+    overflow_add-at
+    loop-at-smaller loop-again
     (λ c. c.loop-at.invariant.0) (λ c. search rules) returns)

@@ -24,8 +24,9 @@ returns c =
 
 mark-options-requires : tie.Need-mark_options-requires
 mark-options-requires c κs =
+    let at-tag_at-t = c.before.before.before.before.before in
     let p = c.requires in
-    (p.0, ((places c.before.before.before.before.before).each, p.1.1.1))
+    (p.0, ((places at-tag_at-t).each, p.1.1.1))
 
 returns-2 : tie.Need-returns
 returns-2 c =

@@ -9,15 +9,12 @@ use Rattle.extend.proofs.extend.extend_source.Statement.{statement}
 use Rattle.extend.proofs.extend.extend_source.Tie as tie
 
 extend-requires : tie.Need-extend-requires
-extend-requires c κs = subst Extendable (sym c.before.limits.ensures) extendable-source
+extend-requires c κs = subst Extendable (sym c.limits.ensures) extendable-source
 
 returns : tie.Need-returns
 returns c =
-    let at-extend = c.before.before in
-    let at-limits = at-extend.before.before in
-    let at-shared-slice-known = at-limits.before.before.before in
-    let a = at-shared-slice-known.before.args in
-    meets-same at-limits.limits.result source a.s.now a.k.now a.out.now at-limits.limits.ensures at-extend.extend.ensures
+    let a = c.args in
+    meets-same c.limits.result source a.s.now a.k.now a.out.now c.limits.ensures c.extend.ensures
 
 pub extend_source_spec : {M : Type 1} → statement M
 extend_source_spec = tie.close (tie.spec (λ c κs. search rules) extend-requires (λ c. search rules) returns)

@@ -6,23 +6,15 @@ use Rattle.extend.proofs.Laws.Joined.{joined-writes}
 use Rattle.extend.proofs.extend.write_joined.Statement.{statement}
 use Rattle.extend.proofs.extend.write_joined.Tie as tie
 
-write-keys-requires : tie.Need-write-keys-requires
+write-keys-requires : tie.Need-write_keys-requires
 write-keys-requires c κs =
-    let at_copy = c.before.before.before in
-    let at_out = at_copy.before.before.before in
-    let at-slice-known = at_out.before.before.before in
-    let p = at-slice-known.before.before.before.requires in (p.1.0, (search rules, p.1.1.1.1))
+    let p = c.requires in (p.1.0, (search rules, p.1.1.1.1))
 
 returns : tie.Need-returns
 returns c =
-    let at-write-keys-arg = c.before.before.before in
-    let at_copy = at-write-keys-arg.before.before.before in
-    let at_out = at_copy.before.before.before in
-    let at-slice-known = at_out.before.before.before in
-    let start = at-slice-known.before.before.before in
-    let a = start.args in
-    joined-writes a.set.now a.count (take a.n a.keys.now) a.n a.out.now _ _ _ start.requires.0
-    at_out.before.write-set-header.ensures at_copy.copy.ensures c.before.before.write-keys.ensures
+    let a = c.args in
+    joined-writes a.set.now a.count (take a.n a.keys.now) a.n a.out.now _ _ _ c.requires.0
+    c.write_set_header.ensures c.copy.ensures c.write_keys.ensures
 
 pub write_joined_spec : {M : Type 1} → statement M
 write_joined_spec =

@@ -56,16 +56,18 @@ loop-holds c =
 
 add_total : tie.Need-overflow_add-total invariant-loop decreases-loop
 add_total c =
+    let at-loop-at = c.before.before.before.before in
     let a = c.args in
     let m = next c.before in
-    omega (arith, adds-few m a.set.now a.count, m.fits, (here c.before.before.before.before).made, c.measure_remainder-total.ensures)
+    omega (arith, adds-few m a.set.now a.count, m.fits, (here at-loop-at).made, c.measure_remainder-total.ensures)
 
 loop-again : tie.Need-loop-at-preserved invariant-loop decreases-loop
 loop-again c =
+    let at-loop-at = c.before.before.before.before.before in
     let a = c.args in
     let long = c.measure_remainder-total in
-    pass-next c.loop-at.invariant c.loop-at-test.true (part c.before.before.before.before.before) (part_to_end (source c.before.before.before.before.before) c.loop-at.at) _ c.record_size-at.ensures
-    (λ gone. c.loop-at.total + long.result ≡ 4 + length (left_bytes (members c.before.before.before.before.before) gone))
+    pass-next c.loop-at.invariant c.loop-at-test.true (part at-loop-at) (part_to_end (source at-loop-at) c.loop-at.at) _ c.record_size-at.ensures
+    (λ gone. c.loop-at.total + long.result ≡ 4 + length (left_bytes (members at-loop-at) gone))
     (λ w a' m. omega (arith, a'.made, adds_bytes m a.set.now a.count, long.ensures))
 
 returns : tie.Need-returns invariant-loop decreases-loop

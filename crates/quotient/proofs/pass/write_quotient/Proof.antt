@@ -54,31 +54,38 @@ next c = walk_more (here c.before.before.before).walk c.loop-at-test.true (part 
 
 write-remainder-requires : tie.Need-write_remainder-size-requires invariant-loop decreases-loop
 write-remainder-requires c κs =
+    let at-loop-at = c.before.before.before.before in
     let m = next c.before in
     let room = adds-within m c.args.set.now c.args.count in
-    (m.whole, (c.requires.1.0, (c.requires.1.1, omega (arith, room, (here c.before.before.before.before).made.long, (held c.before.before.before.before).asked.fits, c.loop-at.invariant.0))))
+    (m.whole, (c.requires.1.0, (c.requires.1.1, omega (arith, room, (here at-loop-at).made.long, (held at-loop-at).asked.fits, c.loop-at.invariant.0))))
 
 add-to : tie.Need-overflow_add-to invariant-loop decreases-loop
 add-to c =
+    let at-part = c.before.before.before.before in
+    let at-loop-at = at-part.before.before.before in
     let a = c.args in
-    let m = next c.before.before.before.before in
-    omega (arith, adds-few m a.set.now a.count, m.fits, (here c.before.before.before.before.before.before.before).made.long, c.write_remainder-size.ensures.0)
+    let m = next at-part in
+    omega (arith, adds-few m a.set.now a.count, m.fits, (here at-loop-at).made.long, c.write_remainder-size.ensures.0)
 
 add-made : tie.Need-overflow_add-made invariant-loop decreases-loop
 add-made c =
-    let walk = (here c.before.before.before.before.before.before.before.before).walk in
-    let few = rules-left (members c.before.before.before.before.before.before.before.before) (here c.before.before.before.before.before.before.before.before).gone in
+    let at-part = c.before.before.before.before.before in
+    let at-loop-at = at-part.before.before.before in
+    let walk = (here at-loop-at).walk in
+    let few = rules-left (members at-loop-at) (here at-loop-at).gone in
     let one = one-few c.write_remainder-size.result c.count_record-made.result c.count_record-made.ensures in
-    omega (arith, few, walk-few walk c.loop-at-test.true, (held c.before.before.before.before.before.before.before.before).asked.few, (here c.before.before.before.before.before.before.before.before).made.counted, one)
+    omega (arith, few, walk-few walk c.loop-at-test.true, (held at-loop-at).asked.few, (here at-loop-at).made.counted, one)
 
 loop-again : tie.Need-loop-at-preserved invariant-loop decreases-loop
 loop-again c =
+    let at-write_remainder-arg = c.before.before.before.before.before in
+    let at-loop-at = at-write_remainder-arg.before.before.before.before in
     let l = c.loop-at in
     let a = c.args in
     let written = c.write_remainder-size in (
       written.auto.out ∙ l.invariant.0,
-      pass-next l.invariant.1 c.loop-at-test.true (part c.before.before.before.before.before.before.before.before.before) (part_to_end (source c.before.before.before.before.before.before.before.before.before) l.at) _ c.record_size-at.ensures
-          (Made (members c.before.before.before.before.before.before.before.before.before) (came c.before.before.before.before.before.before.before.before.before) _ (l.made + c.count_record-made.result) (l.to + written.result))
+      pass-next l.invariant.1 c.loop-at-test.true (part at-loop-at) (part_to_end (source at-loop-at) l.at) _ c.record_size-at.ensures
+          (Made (members at-loop-at) (came at-loop-at) _ (l.made + c.count_record-made.result) (l.to + written.result))
           (λ w along m. made-next a.set.now a.count m along.made written.ensures.1 _ _ written.ensures.0 c.count_record-made.ensures),
     )
 
@@ -100,10 +107,28 @@ same_length c =
 
 returns : tie.Need-returns invariant-loop decreases-loop
 returns c =
-    (
-      λ w. let made = along-end (c.loop-at.invariant.1 w) c.loop-at-test.false in omega (arith, made.long, length-quotient (members c.before.before.before.before.before.before) w.program),
+    let at-shared_slice_known-in-loop-at = c.before.before.before.before.before in
+    let at-loop-at = at-shared_slice_known-in-loop-at.before in (
+      λ w. let made = along-end (c.loop-at.invariant.1 w) c.loop-at-test.false in omega (arith, made.long, length-quotient (members at-loop-at) w.program),
       λ w. made-end (along-end (c.loop-at.invariant.1 w) c.loop-at-test.false) c.write_end.ensures,
     )
+
+record_size-at-requires : tie.Need-record_size-at-requires invariant-loop decreases-loop
+record_size-at-requires c κs =
+    let at-part = c.before.before.before.before.before in
+    omega (arith, (next at-part).whole)
+
+overflow_add-at : tie.Need-overflow_add-at invariant-loop decreases-loop
+overflow_add-at c =
+    let at-write_remainder-arg = c.before.before.before.before.before in
+    let at-part = at-write_remainder-arg.before in
+    omega (arith, (next at-part).fits, c.record_size-at.ensures)
+
+loop-at-smaller : tie.Need-loop-at-smaller invariant-loop decreases-loop
+loop-at-smaller c =
+    let at-write_remainder-arg = c.before.before.before.before.before in
+    let at-part = at-write_remainder-arg.before in
+    omega (arith, (next at-part).fits, c.record_size-at.ensures)
 
 pub write_quotient_spec : {M : Type 1} → statement M
 write_quotient_spec =
@@ -111,7 +136,7 @@ write_quotient_spec =
     (λ c. let a = c.args in (refl, pass-start a.s.now _ (made-start (key_set a.set.now a.count) a.out.now)))
     (λ c. omega (arith, opens c.before)) (λ c. omega (arith, opens c.before.before)) (λ c. omega (arith, opens c.before.before))
     (λ c. search rules) write-remainder-requires add-to (λ c κs. search rules) add-made
-    (λ c κs. omega (arith, (next c.before.before.before.before.before).whole))
-    (λ c. omega (arith, (next c.before.before.before.before.before.before).fits, c.record_size-at.ensures))
-    (λ c. omega (arith, (next c.before.before.before.before.before.before).fits, c.record_size-at.ensures)) loop-again cast-write-end
+    record_size-at-requires
+    overflow_add-at
+    loop-at-smaller loop-again cast-write-end
     (λ c κs. omega (arith, ended c)) (λ c. omega (arith, ended c.before.before.before)) same_length returns)

@@ -39,8 +39,10 @@ returns c =
 
 returns-2 : tie.Need-returns-in-Read
 returns-2 c =
+    let in-Read = c.before.before.before.before in
+    let at-read_inputs-inputs = in-Read.before in
     let a = c.args in
-    read-met a.lim a.s.now a.k.now a.out.now c.requires.0 (given c.before.before.before.before) (bytes c.before.before.before.before.before) a.s.now (same c.before.before.before.before)
+    read-met a.lim a.s.now a.k.now a.out.now c.requires.0 (given in-Read) (bytes at-read_inputs-inputs) a.s.now (same in-Read)
     c.divide_program.ensures
 
 pub divide_spec : {M : Type 1} → statement M

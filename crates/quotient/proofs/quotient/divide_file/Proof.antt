@@ -30,19 +30,25 @@ same c =
 
 divide-meant-requires : tie.Need-divide_meant-requires
 divide-meant-requires c κs =
+    let in-Read = c.before.before.before.before in
+    let at-read_inputs-both = in-Read.before in
     let a = c.args in
-    file-dividing a.lim a.s.now a.k.now a.out.now c.requires.0 (given c.before.before.before.before) (bytes c.before.before.before.before.before) c.requires.1
+    file-dividing a.lim a.s.now a.k.now a.out.now c.requires.0 (given in-Read) (bytes at-read_inputs-both) c.requires.1
 
 returns : tie.Need-returns-then-has_sheets
 returns c =
+    let at-none = c.before.before.before.before.before in
+    let in-Read = at-none.before.before.before in
+    let at-read_inputs-both = in-Read.before in
     let a = c.args in
-    file-met a.lim a.s.now a.k.now a.out.now c.requires.0 (given c.before.before.before.before.before.before.before.before) (bytes c.before.before.before.before.before.before.before.before.before) c.requires.1
+    file-met a.lim a.s.now a.k.now a.out.now c.requires.0 (given in-Read) (bytes at-read_inputs-both) c.requires.1
     c.divide_meant.ensures
 
 divide-program-requires : tie.Need-divide_program-requires
 divide-program-requires c κs =
+    let at-read_inputs-both = c.before.before.before.before in
     let a = c.args in
-    read-dividing a.lim a.s.now a.k.now a.out.now c.requires.0 (given c.before.before.before) (bytes c.before.before.before.before) a.s.now (same c.before)
+    read-dividing a.lim a.s.now a.k.now a.out.now c.requires.0 (given c.before.before.before) (bytes at-read_inputs-both) a.s.now (same c.before)
 
 returns-2 : tie.Need-returns-in-Refused
 returns-2 c =
@@ -51,8 +57,11 @@ returns-2 c =
 
 returns-3 : tie.Need-returns-else-has_sheets
 returns-3 c =
+    let else-has_sheets = c.before.before.before.before in
+    let in-Read = else-has_sheets.before.before in
+    let at-read_inputs-both = in-Read.before in
     let a = c.args in
-    read-met a.lim a.s.now a.k.now a.out.now c.requires.0 (given c.before.before.before.before.before.before) (bytes c.before.before.before.before.before.before.before) a.s.now (same c.before.before.before.before)
+    read-met a.lim a.s.now a.k.now a.out.now c.requires.0 (given in-Read) (bytes at-read_inputs-both) a.s.now (same else-has_sheets)
     c.divide_program.ensures
 
 pub divide_file_spec : {M : Type 1} → statement M

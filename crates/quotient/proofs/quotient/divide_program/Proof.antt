@@ -41,9 +41,11 @@ write-quotient-requires c κs =
 
 returns-2 : tie.Need-returns
 returns-2 c w =
+    let at-is_room = c.before.before.before.before.before in
+    let at-slice_known = at-is_room.before in
     let a = c.args in
     let done = c.write_quotient.ensures in
-    written-met a.s.now a.k.now a.out.now w (bytes-s c.before.before.before.before.before.before) (bytes-k c.before.before.before.before.before.before) _ c.is_room.ensures
+    written-met a.s.now a.k.now a.out.now w (bytes-s at-slice_known) (bytes-k at-slice_known) _ c.is_room.ensures
     (c.if-not-is_room.false) _ _ done.0 done.1
 
 pub divide_program_spec : {M : Type 1} → statement M

@@ -80,38 +80,60 @@ copy-requires c κs = (search rules, omega (arith, fits c.before, c.write_left-k
 
 cast-write-header : tie.Need-overflow_cast-kept
 cast-write-header c =
-    let few = left-few (source c.before.before.before.before) c.args.set.now c.args.count 7 (head_count (source c.before.before.before.before)) in
+    let else-kept-eq0 = c.before.before.before.before in
+    let few = left-few (source else-kept-eq0) c.args.set.now c.args.count 7 (head_count (source else-kept-eq0)) in
     omega (arith, c.write_left-kept.ensures.0, few, (c.shared_slice_known-1.given 4).fits)
 
 write-header-requires : tie.Need-write_header-requires
 write-header-requires c κs =
-    omega (arith, fits c.before.before.before.before.before, c.write_left-kept.auto.out, c.copy.auto.out)
+    let else-kept-eq0 = c.before.before.before.before.before in
+    omega (arith, fits else-kept-eq0, c.write_left-kept.auto.out, c.copy.auto.out)
 
 returns-3 : tie.Need-returns
 returns-3 c =
+    let at-out-2 = c.before.before.before.before.before in
+    let else-kept-eq0 = at-out-2.before.before.before in
     let copied = c.copy in
     let a = c.args in
-    let t = source c.before.before.before.before.before.before.before.before in
+    let t = source else-kept-eq0 in
     let d = a.out.now in
-    let ls = options c.before.before.before.before.before.before.before.before in
+    let ls = options else-kept-eq0 in
     let found = c.write_left-kept.ensures in
-    let room = fits c.before.before.before.before.before.before.before.before in
+    let room = fits else-kept-eq0 in
     let of-header = length-header (length ls) (positive_count t) 0 in
     let positives = take (5 * positive_count t) (drop (7 + 5 * head_count t) t) in
     let body = write-behind d (a.to + 7) (encoded_literals ls) _ positives (omega (arith, room))
     (omega (arith, found.0, length-encoded-literals ls)) found.1 copied.ensures in
     let top = c.write_header.ensures
     ∙ ap (λ n. write copied.new.out a.to (header n (positive_count t) 0)) found.0 in (
-      omega (arith, long c.before.before.before.before.before.before.before.before),
+      omega (arith, long else-kept-eq0),
       write-ahead d a.to (header (length ls) (positive_count t) 0) (a.to + 7) _ (omega (arith, room, of-header)) (omega (arith, of-header)) body top
-          ∙ ap (write d a.to) (option-bytes-some t ls (some c.before.before.before.before.before.before.before.before)),
+          ∙ ap (write d a.to) (option-bytes-some t ls (some else-kept-eq0)),
     )
+
+overflow_mul-result : tie.Need-overflow_mul-result
+overflow_mul-result c =
+    let at-out-2 = c.before.before.before.before.before in
+    let else-kept-eq0 = at-out-2.before.before.before in
+    omega (arith, fits else-kept-eq0)
+
+overflow_add-result : tie.Need-overflow_add-result
+overflow_add-result c =
+    let at-out-2 = c.before.before.before.before.before in
+    let else-kept-eq0 = at-out-2.before.before.before in
+    omega (arith, fits else-kept-eq0)
+
+overflow_add-result-2 : tie.Need-overflow_add-result-2
+overflow_add-result-2 c =
+    let at-out-2 = c.before.before.before.before.before in
+    let else-kept-eq0 = at-out-2.before.before.before in
+    omega (arith, fits else-kept-eq0)
 
 pub write_options_spec : {M : Type 1} → statement M
 write_options_spec =
     tie.close (tie.spec (λ c. search rules) returns (λ c. search rules) (λ c. search rules) (λ c. search rules) add-write-left
     write-left-requires (λ c. search rules) returns-2 (λ c. search rules) (λ c. search rules) (λ c. search rules) (λ c. search rules)
     (λ c. omega (arith, fits c.before)) (λ c. omega (arith, fits c.before)) (λ c. omega (arith, fits c.before)) copy-requires
-    cast-write-header write-header-requires (λ c. omega (arith, fits c.before.before.before.before.before.before.before.before))
-    (λ c. omega (arith, fits c.before.before.before.before.before.before.before.before)) (λ c. omega (arith, fits c.before.before.before.before.before.before.before.before)) (λ c. search rules)
+    cast-write-header write-header-requires overflow_mul-result
+    overflow_add-result overflow_add-result-2 (λ c. search rules)
     returns-3)

@@ -46,7 +46,9 @@ abbrev place : tie.After-hold-found invariant-loop decreases-loop → ℕ
 place c = c.read_rules-run.result.at
 
 abbrev rest_of : tie.After-hold-found invariant-loop decreases-loop → List ℕ
-rest_of c = drop (place c) (source c.before.before.before.before.before)
+rest_of c =
+    let at-loop-size = c.before.before.before.before.before in
+    drop (place c) (source at-loop-size)
 
 found-now : (c : tie.After-hold-found invariant-loop decreases-loop)
     → found_of c.with_rules-passed.result (step_of (record_at c.args.lim c.with_rules-passed.result (rest_of c)))
@@ -70,41 +72,53 @@ sized c = found-size _ _ (rest_of c.before) _ _ (found-now c.before ∙ c.in-Nex
 
 add_at : tie.Need-overflow_add-at invariant-loop decreases-loop
 add_at c =
-    omega (arith, (sized c).fits, length-drop (place c.before) (source c.before.before.before.before.before.before), lies c.before.before.before.before)
+    let at-with_rules-passed = c.before.before.before.before in
+    let at-loop-size = at-with_rules-passed.before.before in
+    omega (arith, (sized c).fits, length-drop (place c.before) (source at-loop-size), lies at-with_rules-passed)
 
 loop-less : tie.Need-loop-size-smaller invariant-loop decreases-loop
 loop-less c =
-    omega (arith, (sized c).large, (sized c).fits, length-drop (place c.before) (source c.before.before.before.before.before.before), lies c.before.before.before.before)
+    let at-with_rules-passed = c.before.before.before.before in
+    let at-loop-size = at-with_rules-passed.before.before in
+    omega (arith, (sized c).large, (sized c).fits, length-drop (place c.before) (source at-loop-size), lies at-with_rules-passed)
 
 loop-again : tie.Need-loop-size-preserved invariant-loop decreases-loop
 loop-again c =
+    let at-with_rules-passed = c.before.before.before.before in
+    let at-loop-size = at-with_rules-passed.before.before in
     let lim = c.args.lim in
     let e = found-now c.before ∙ c.in-Next.is in
     let more = found-total lim c.with_rules-passed.result (rest_of c.before) _ _ e in
-    let w = passed c.before.before.before.before in (
-      omega (arith, (sized c).fits, length-drop (place c.before) (source c.before.before.before.before.before.before), lies c.before.before.before.before),
+    let w = passed at-with_rules-passed in (
+      omega (arith, (sized c).fits, length-drop (place c.before) (source at-loop-size), lies at-with_rules-passed),
       omega (arith, (sized c).large, more, w.few),
       c.loop-size.invariant.2 ∙ w.same
-          ∙ left-next lim (source c.before.before.before.before.before.before) (place c.before) c.with_rules-passed.result (omega (arith, w.few, lies c.before.before.before.before)) _ _ e,
+          ∙ left-next lim (source at-loop-size) (place c.before) c.with_rules-passed.result (omega (arith, w.few, lies at-with_rules-passed)) _ _ e,
     )
 
 returns-2 : tie.Need-returns-in-End invariant-loop decreases-loop
 returns-2 c =
-    let w = passed c.before.before.before.before in
-    sym (c.loop-size.invariant.2 ∙ w.same ∙ left_end c.args.lim (source c.before.before.before.before.before.before) (place c.before) c.with_rules-passed.result
-    (omega (arith, w.few, lies c.before.before.before.before)) (found-now c.before ∙ c.in-End.is))
+    let at-with_rules-passed = c.before.before.before.before in
+    let at-loop-size = at-with_rules-passed.before.before in
+    let w = passed at-with_rules-passed in
+    sym (c.loop-size.invariant.2 ∙ w.same ∙ left_end c.args.lim (source at-loop-size) (place c.before) c.with_rules-passed.result
+    (omega (arith, w.few, lies at-with_rules-passed)) (found-now c.before ∙ c.in-End.is))
 
 add-t23 : tie.Need-overflow_add-result invariant-loop decreases-loop
 add-t23 c =
+    let at-with_rules-passed = c.before.before.before.before.before in
+    let at-loop-size = at-with_rules-passed.before.before in
     let e = found-now c.before.before ∙ c.in-Refused.is in
-    omega (arith, found-place c.args.lim c.with_rules-passed.result (rest_of c.before.before) _ e, length-drop (place c.before.before) (source c.before.before.before.before.before.before.before), lies c.before.before.before.before.before)
+    omega (arith, found-place c.args.lim c.with_rules-passed.result (rest_of c.before.before) _ e, length-drop (place c.before.before) (source at-loop-size), lies at-with_rules-passed)
 
 returns-3 : tie.Need-returns-in-Refused invariant-loop decreases-loop
 unfolding shifted
 returns-3 c =
-    let w = passed c.before.before.before.before.before in
-    sym (c.loop-size.invariant.2 ∙ w.same ∙ left-refused c.args.lim (source c.before.before.before.before.before.before.before) (place c.before.before) c.with_rules-passed.result
-    (omega (arith, w.few, lies c.before.before.before.before.before)) _ (found-now c.before.before ∙ c.in-Refused.is))
+    let at-with_rules-passed = c.before.before.before.before.before in
+    let at-loop-size = at-with_rules-passed.before.before in
+    let w = passed at-with_rules-passed in
+    sym (c.loop-size.invariant.2 ∙ w.same ∙ left-refused c.args.lim (source at-loop-size) (place c.before.before) c.with_rules-passed.result
+    (omega (arith, w.few, lies at-with_rules-passed)) _ (found-now c.before.before ∙ c.in-Refused.is))
 
 pub read_items_spec : {M : Type 1} → statement M
 read_items_spec =

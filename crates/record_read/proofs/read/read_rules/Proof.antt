@@ -52,20 +52,24 @@ literals c h e =
 whole : (c : tie.In-Literals invariant-loop decreases-loop) → 7 ≤ length (part c.before.before.before)
 whole c = (literals c (record { rules = c.loop-step.rules; overrides = 0; oppositions = 0 }) refl).whole
 
-body : (c : tie.After-read_body-step invariant-loop decreases-loop) (h : Held) → h.rules ≡ c.loop-step.rules
-    → step_of (record_at c.args.lim h (part c.before.before.before.before.before.before.before)) ≡ c.read_body-step.result
+body : (c : tie.After-read_body-step invariant-loop decreases-loop) (h : Held) → (let at-read_front-front = c.before.before.before.before.before in let at-loop-step = at-read_front-front.before.before in h.rules ≡ c.loop-step.rules
+    → step_of (record_at c.args.lim h (part at-loop-step)) ≡ c.read_body-step.result)
 body c h e =
-    sym (literals-step c.args.lim (part c.before.before.before.before.before.before.before) _ _ (literals c.before.before.before.before h e) _ c.read_body-step.ensures)
+    let in-Literals = c.before.before.before.before in
+    let at-loop-step = in-Literals.before.before.before in
+    sym (literals-step c.args.lim (part at-loop-step) _ _ (literals in-Literals h e) _ c.read_body-step.ensures)
 
-step : (c : tie.In-Rule invariant-loop decreases-loop) (h : Held) → h.rules ≡ c.loop-step.rules
-    → step_of (record_at c.args.lim h (part c.before.before.before.before.before.before.before.before))
-    ≡ Step.Rule c.in-Rule.size
+step : (c : tie.In-Rule invariant-loop decreases-loop) (h : Held) → (let in-Literals = c.before.before.before.before.before in let at-loop-step = in-Literals.before.before.before in h.rules ≡ c.loop-step.rules
+    → step_of (record_at c.args.lim h (part at-loop-step))
+    ≡ Step.Rule c.in-Rule.size)
 step c h e = body c.before h e ∙ c.in-Rule.is
 
-sized : (c : tie.In-Rule invariant-loop decreases-loop) → (6 ≤ c.in-Rule.size)
-    × (c.loop-step.at + c.in-Rule.size ≤ length (source c.before.before.before.before.before.before.before.before))
+sized : (c : tie.In-Rule invariant-loop decreases-loop) → (let in-Literals = c.before.before.before.before.before in let at-loop-step = in-Literals.before.before.before in (6 ≤ c.in-Rule.size)
+    × (c.loop-step.at + c.in-Rule.size ≤ length (source at-loop-step)))
 sized c =
-    rule-sized c.loop-step.invariant (part c.before.before.before.before.before.before.before.before) (part_to_end (source c.before.before.before.before.before.before.before.before) c.loop-step.at) _ (step c)
+    let in-Literals = c.before.before.before.before.before in
+    let at-loop-step = in-Literals.before.before.before in
+    rule-sized c.loop-step.invariant (part at-loop-step) (part_to_end (source at-loop-step) c.loop-step.at) _ (step c)
 
 add_at : tie.Need-overflow_add-at invariant-loop decreases-loop
 add_at c = omega (arith, sized c)
@@ -77,11 +81,15 @@ add-rules c =
 
 loop-again : tie.Need-loop-step-preserved invariant-loop decreases-loop
 loop-again c =
-    going_next c.loop-step.invariant (part c.before.before.before.before.before.before.before.before) (part_to_end (source c.before.before.before.before.before.before.before.before) c.loop-step.at) _ (step c)
+    let in-Literals = c.before.before.before.before.before in
+    let at-loop-step = in-Literals.before.before.before in
+    going_next c.loop-step.invariant (part at-loop-step) (part_to_end (source at-loop-step) c.loop-step.at) _ (step c)
 
 returns-3 : tie.Need-returns-in_default invariant-loop decreases-loop
 returns-3 c =
-    going-stopped c.args.held c.loop-step.invariant c.requires.1 (part c.before.before.before.before.before.before.before.before) (part_to_end (source c.before.before.before.before.before.before.before.before) c.loop-step.at) _ (body c.before)
+    let in-Literals = c.before.before.before.before.before in
+    let at-loop-step = in-Literals.before.before.before in
+    going-stopped c.args.held c.loop-step.invariant c.requires.1 (part at-loop-step) (part_to_end (source at-loop-step) c.loop-step.at) _ (body c.before)
 
 pub read_rules_spec : {M : Type 1} → statement M
 read_rules_spec =

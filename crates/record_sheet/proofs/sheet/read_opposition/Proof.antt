@@ -30,12 +30,14 @@ returns-2 c =
 
 returns-3 : tie.Need-returns
 returns-3 c =
+    let at-is_option-arg = c.before.before.before.before.before in
+    let else-is_full = at-is_option-arg.before.before in
     let a = c.args in
     let t = a.t.now in
     let one = ap (λ x. is_signed (decoded a.lim x)) (sym (part_to_end t 2)) ∙ sym c.is_option-one.ensures in
     let other = ap (λ x. is_signed (decoded a.lim x)) (sym (part_to_end t 7)) ∙ sym c.is_option-other.ensures in
     c.judge_pair.ensures
-    ∙ sym (opposition-pair a.lim a.held t (room c.before.before.before.before.before.before.before) c.if-t-lt12.false ∙ pair-told one other (sym c.is_pair_same.ensures))
+    ∙ sym (opposition-pair a.lim a.held t (room else-is_full) c.if-t-lt12.false ∙ pair-told one other (sym c.is_pair_same.ensures))
 
 pub read_opposition_spec : {M : Type 1} → statement M
 read_opposition_spec =

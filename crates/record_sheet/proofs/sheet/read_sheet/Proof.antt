@@ -33,22 +33,25 @@ other c = ap opening (sym (mark_of c)) ∙ c.requires.other
 
 returns-3 : tie.Need-returns-in-79
 returns-3 c =
+    let else-t-ne58 = c.before.before.before.before.before in
     let a = c.args in
     c.read_override.ensures ∙ sym (record-override a.lim a.held a.t.now c.requires.whole
-    (mark_of c.before.before.before.before.before ∙ letter-o a.lim _ c.in-79.is (omega (arith, c.if-lim-eq0.false))))
+    (mark_of else-t-ne58 ∙ letter-o a.lim _ c.in-79.is (omega (arith, c.if-lim-eq0.false))))
 
 returns-4 : tie.Need-returns-in-88
 returns-4 c =
+    let else-t-ne58 = c.before.before.before.before.before in
     let a = c.args in
     c.read_opposition.ensures ∙ sym (record-opposition a.lim a.held a.t.now c.requires.whole
-    (mark_of c.before.before.before.before.before ∙ letter-x a.lim _ c.in-88.is (omega (arith, c.if-lim-eq0.false))))
+    (mark_of else-t-ne58 ∙ letter-x a.lim _ c.in-88.is (omega (arith, c.if-lim-eq0.false))))
 
 returns-5 : tie.Need-returns-in_default
 returns-5 c =
+    let else-t-ne58 = c.before.before.before.before.before in
     let a = c.args in
     let rest = c.in_default.in_default-own.rest in
     c.refuse-in_default.ensures ∙ sym (record-unmarked a.lim a.held a.t.now c.requires.whole
-    (mark_of c.before.before.before.before.before ∙ letter-unmarked a.lim _ (other c.before.before.before.before.before) rest.0.1 rest.1))
+    (mark_of else-t-ne58 ∙ letter-unmarked a.lim _ (other else-t-ne58) rest.0.1 rest.1))
 
 pub read_sheet_spec : {M : Type 1} → statement M
 read_sheet_spec =

@@ -33,20 +33,24 @@ some c = omega (arith, c.if-n-eq0.false)
 
 walk-items-requires : tie.Need-walk_items-requires
 walk-items-requires c κs =
+    let in-All = c.before.before.before.before.before in
     let a = c.args in
-    given-file a.lim a.s.now a.number _ (held c.before.before.before.before.before) (bytes c.before.before.before.before.before) (some c.before) c.if-held-n.false
+    given-file a.lim a.s.now a.number _ (held in-All) (bytes in-All) (some c.before) c.if-held-n.false
 
 returns-3 : tie.Need-returns-then-has_sheets
 returns-3 c =
+    let else-n-eq0 = c.before.before.before.before.before in
+    let in-All = else-n-eq0.before in
     let a = c.args in
     let fits = c.if-held-n.false in
-    ap Shown.At (c.walk_items.ensures (given-file a.lim a.s.now a.number _ (held c.before.before.before.before.before.before) (bytes c.before.before.before.before.before.before) (some c.before.before) fits))
-    ∙ sym (shown-file a.lim a.s.now a.number _ (held c.before.before.before.before.before.before) (bytes c.before.before.before.before.before.before) (some c.before.before) fits)
+    ap Shown.At (c.walk_items.ensures (given-file a.lim a.s.now a.number _ (held in-All) (bytes in-All) (some c.before.before) fits))
+    ∙ sym (shown-file a.lim a.s.now a.number _ (held in-All) (bytes in-All) (some c.before.before) fits)
 
 walk-requires : tie.Need-walk-requires
 walk-requires c κs =
+    let in-All = c.before.before.before.before.before in
     let a = c.args in
-    given a.lim a.s.now a.number _ (held c.before.before.before.before.before) (bytes c.before.before.before.before.before) (some c.before) c.if-held-n.false
+    given a.lim a.s.now a.number _ (held in-All) (bytes in-All) (some c.before) c.if-held-n.false
     (sym c.has_sheets.ensures ∙ c.if-has_sheets.false)
 
 returns-4 : tie.Need-returns-in-Refused
@@ -56,11 +60,13 @@ returns-4 c =
 
 returns-5 : tie.Need-returns-else-has_sheets
 returns-5 c =
+    let else-n-eq0 = c.before.before.before.before.before in
+    let in-All = else-n-eq0.before in
     let a = c.args in
     let fits = c.if-held-n.false in
     let none = sym c.has_sheets.ensures ∙ c.if-has_sheets.false in
-    ap Shown.At (c.walk.ensures (given a.lim a.s.now a.number _ (held c.before.before.before.before.before.before) (bytes c.before.before.before.before.before.before) (some c.before.before) fits none))
-    ∙ sym (shown-given a.lim a.s.now a.number _ (held c.before.before.before.before.before.before) (bytes c.before.before.before.before.before.before) (some c.before.before) fits none)
+    ap Shown.At (c.walk.ensures (given a.lim a.s.now a.number _ (held in-All) (bytes in-All) (some c.before.before) fits none))
+    ∙ sym (shown-given a.lim a.s.now a.number _ (held in-All) (bytes in-All) (some c.before.before) fits none)
 
 pub find_spec : {M : Type 1} → statement M
 find_spec =

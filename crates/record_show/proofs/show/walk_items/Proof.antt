@@ -53,40 +53,45 @@ large c =
     simp (length-take, length-drop) (omega (arith, m.fits, m.size, item-large m.the-item))
 
 -- the rules that were counted there
-counted : (c : tie.After-count_rule-rules invariant-loop decreases-loop) → c.count_rule-rules.result ≡ rules_in (letter_of (part c.before.before.before.before))
+counted : (c : tie.After-count_rule-rules invariant-loop decreases-loop) → (let at-loop-left = c.before.before.before.before in c.count_rule-rules.result ≡ rules_in (letter_of (part at-loop-left)))
 counted c =
+    let at-loop-left = c.before.before.before.before in
     c.count_rule-rules.ensures
-    ∙ ap rules_in (letter_at (source c.before.before.before.before) c.loop-left.at ∙ ap letter_of (sym (part_to_end (source c.before.before.before.before) c.loop-left.at)))
+    ∙ ap rules_in (letter_at (source at-loop-left) c.loop-left.at ∙ ap letter_of (sym (part_to_end (source at-loop-left) c.loop-left.at)))
 
 returns : tie.Need-returns-then-left-rules invariant-loop decreases-loop
 returns c w =
+    let at-loop-left = c.before.before.before.before.before in
     let l = c.loop-left in
-    let there = here c.before.before.before.before.before w in
+    let there = here at-loop-left w in
     rw c.item_size-size.ensures
-    (sym (extent-item _ l.left there.made l.invariant.0 there.walk (next c.before.before.before.before.before w) (omega (arith, c.if-left-rules.true, counted c.before))))
+    (sym (extent-item _ l.left there.made l.invariant.0 there.walk (next at-loop-left w) (omega (arith, c.if-left-rules.true, counted c.before))))
 
 -- the item's size, seen behind the test
-size_of : (c : tie.Else-left-rules invariant-loop decreases-loop) → c.item_size-size.result + c.loop-left.at + 4 ≤ length (source c.before.before.before.before.before)
+size_of : (c : tie.Else-left-rules invariant-loop decreases-loop) → (let at-loop-left = c.before.before.before.before.before in c.item_size-size.result + c.loop-left.at + 4 ≤ length (source at-loop-left))
 size_of c =
-    let m = next c.before.before.before.before.before c.requires in
+    let at-loop-left = c.before.before.before.before.before in
+    let m = next at-loop-left c.requires in
     omega (arith, c.item_size-size.ensures, m.fits)
 
 more : (c : tie.Else-left-rules invariant-loop decreases-loop) → 6 ≤ c.item_size-size.result
 more c =
-    let m = next c.before.before.before.before.before c.requires in
+    let at-loop-left = c.before.before.before.before.before in
+    let m = next at-loop-left c.requires in
     omega (arith, c.item_size-size.ensures, m.size, item-large m.the-item)
 
 loop-again : tie.Need-loop-left-preserved invariant-loop decreases-loop
 loop-again c =
+    let at-loop-left = c.before.before.before.before.before in
     let l = c.loop-left in (
       omega (arith, c.if-left-rules.false),
       (λ w.
-          let there = here c.before.before.before.before.before w in
-          let m = next c.before.before.before.before.before w in
+          let there = here at-loop-left w in
+          let m = next at-loop-left w in
           record {
             gone = there.gone ++ m.the-item ∷ [];
             walk = m.next _ c.item_size-size.ensures;
-            made = omega (arith, there.made, rules-more there.gone m.the-item, rules-in (part c.before.before.before.before.before) m.the-item m.starts, counted c.before, c.if-left-rules.false);
+            made = omega (arith, there.made, rules-more there.gone m.the-item, rules-in (part at-loop-left) m.the-item m.starts, counted c.before, c.if-left-rules.false);
           }),
     )
 

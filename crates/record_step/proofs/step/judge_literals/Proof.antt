@@ -1,10 +1,8 @@
 -- `step::judge_literals` meets its contract: what was refused, a strict rule, or a defeasible one by its head.
 -- Assumes nothing.
-use native.Mathlib.Omega.{arith}
 use mathlib.Core.Path.{◌≡◌, sym, ap, ap₂, ◌∙◌}
 use mathlib.Core.Bool.{Bool, true}
 use borrow.Author.Rules.{rules}
-use borrow.Author.Tests.{not-true, not-false}
 use Rattle.record.specs.declared.Run.{Run}
 use Rattle.record_step.specs.Code.{judged}
 use Rattle.record_step.proofs.Laws.Judged.{judged-empty, judged-marked, judged-signed}

@@ -1,8 +1,8 @@
 -- `step::read_front` meets its contract: too short a part, or a case for each start.
 -- Assumes nothing.
-use mathlib.Core.Path.{sym, ap, subst, ◌∙◌}
+use mathlib.Core.Path.{sym, ap, ◌∙◌}
 use borrow.Author.Rules.{rules}
-use Rattle.record.specs.Reading.{record_at, rule_at, end_at}
+use Rattle.record.specs.Reading.{rule_at, end_at}
 use Rattle.record.specs.Code.{step_of}
 use Rattle.record.proofs.Laws.Header.{record-cut, record-rule, record-end}
 use Rattle.record_step.proofs.Laws.Front.{told-refused, told-end, opens-rule, opens-end, mark-form, front_same}

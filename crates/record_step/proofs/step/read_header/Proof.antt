@@ -3,7 +3,6 @@
 use native.Mathlib.Omega.{arith}
 use mathlib.Core.Path.{sym, ◌∙◌, ap}
 use borrow.Author.Rules.{rules}
-use borrow.Author.Tests.{not-true, not-false}
 use Rattle.record.specs.Reading.{tag_right}
 use Rattle.record.proofs.Laws.Header.{rule-cut, rule-many, rule-tag, rule-counts, rule-body}
 use Rattle.record_step.proofs.Laws.Front.{told-refused}

@@ -32,7 +32,9 @@ returns c =
 
 copy-requires : tie.Need-copy-requires
 copy-requires c κs =
-    let w = held-now c.before.before.before.before.before.before in
+    let else-out-size = c.before.before.before.before.before in
+    let at-count_front-held = else-out-size.before in
+    let w = held-now at-count_front-held in
     (omega (arith, w.whole, w.few), omega (arith, c.if-out-size.false, c.write_set_header.auto.out))
 
 returns-2 : tie.Need-returns-in-Refused
@@ -42,8 +44,10 @@ returns-2 c =
 
 returns-3 : tie.Need-returns-else-out-size
 returns-3 c =
+    let at-out = c.before.before.before.before.before in
+    let at-count_front-held = at-out.before.before.before.before in
     let a = c.args in
-    restricted-written a.lim a.k.now a.out.now (held-now c.before.before.before.before.before.before.before.before.before) c.if-out-size.false
+    restricted-written a.lim a.k.now a.out.now (held-now at-count_front-held) c.if-out-size.false
     c.write_set_header.ensures c.copy.ensures
 
 pub restrict_spec : {M : Type 1} → statement M

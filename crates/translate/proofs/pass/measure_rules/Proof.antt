@@ -47,13 +47,15 @@ opens c = walk-open (here c).walk
 
 add_total : tie.Need-overflow_add-total invariant-loop decreases-loop
 add_total c =
-    let few = (adds-few (next c.before) (held c.before.before.before.before).asked).bytes in
-    omega (arith, few, (here c.before.before.before.before).made, c.measure_rule-total.ensures)
+    let at-loop-at = c.before.before.before.before in
+    let few = (adds-few (next c.before) (held at-loop-at).asked).bytes in
+    omega (arith, few, (here at-loop-at).made, c.measure_rule-total.ensures)
 
 loop-again : tie.Need-loop-at-preserved invariant-loop decreases-loop
 loop-again c =
+    let at-loop-at = c.before.before.before.before.before in
     let long = c.measure_rule-total in
-    pass-next c.loop-at.invariant c.loop-at-test.true (part c.before.before.before.before.before) (part_to_end (source c.before.before.before.before.before) c.loop-at.at) _ c.record_size-at.ensures
+    pass-next c.loop-at.invariant c.loop-at-test.true (part at-loop-at) (part_to_end (source at-loop-at) c.loop-at.at) _ c.record_size-at.ensures
     (λ gone. c.loop-at.total + long.result ≡ 4 + length (bytes_of gone)) (λ w a m. omega (arith, a.made, adds_bytes m, long.ensures))
 
 returns : tie.Need-returns invariant-loop decreases-loop

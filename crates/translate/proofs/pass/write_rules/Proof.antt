@@ -48,9 +48,10 @@ next c = walk_more (here c.before.before.before).walk c.loop-at-test.true (part 
 
 write-rule-requires : tie.Need-write_rule-requires invariant-loop decreases-loop
 write-rule-requires c κs =
+    let at-loop-at = c.before.before.before.before in
     let m = next c.before in
-    let ok = (held c.before.before.before.before).asked in
-    omega (arith, m.whole, next-nafs m ok.translatable, adds-within m, ok.fits, (here c.before.before.before.before).made.long, c.loop-at.invariant.0)
+    let ok = (held at-loop-at).asked in
+    omega (arith, m.whole, next-nafs m ok.translatable, adds-within m, ok.fits, (here at-loop-at).made.long, c.loop-at.invariant.0)
 
 -- what is counted and measured with it fits its type
 fits : (c : tie.After-part-1 invariant-loop decreases-loop) → Adds (here c.before.before.before).gone (part c.before.before.before)
@@ -58,23 +59,33 @@ fits c = adds-few (next c) (held c.before.before.before).asked.translatable
 
 add-to : tie.Need-overflow_add-to invariant-loop decreases-loop
 add-to c =
-    omega (arith, (fits c.before.before.before.before.before).bytes, (here c.before.before.before.before.before.before.before.before).made.long, c.measure_rule-to.ensures)
+    let at-part = c.before.before.before.before.before in
+    let at-loop-at = at-part.before.before.before in
+    omega (arith, (fits at-part).bytes, (here at-loop-at).made.long, c.measure_rule-to.ensures)
 
 add-made : tie.Need-overflow_add-made invariant-loop decreases-loop
 add-made c =
-    omega (arith, (fits c.before.before.before.before.before.before).rules, (here c.before.before.before.before.before.before.before.before.before).made.counted, c.count_rules-made.ensures)
+    let at-write_rule-arg = c.before.before.before.before.before in
+    let at-part = at-write_rule-arg.before in
+    let at-loop-at = at-part.before.before.before in
+    omega (arith, (fits at-part).rules, (here at-loop-at).made.counted, c.count_rules-made.ensures)
 
 add-number : tie.Need-overflow_add-number invariant-loop decreases-loop
 add-number c =
-    omega (arith, (fits c.before.before.before.before.before.before.before).numbers, (here c.before.before.before.before.before.before.before.before.before.before).made.numbered)
+    let at-write_rule = c.before.before.before.before.before in
+    let at-part = at-write_rule.before.before in
+    let at-loop-at = at-part.before.before.before in
+    omega (arith, (fits at-part).numbers, (here at-loop-at).made.numbered)
 
 loop-again : tie.Need-loop-at-preserved invariant-loop decreases-loop
 loop-again c =
+    let at-write_rule = c.before.before.before.before.before in
+    let at-loop-at = at-write_rule.before.before.before.before.before in
     let l = c.loop-at in
     let same = c.write_rule.auto.out in (
       same ∙ l.invariant.0,
-      pass-next l.invariant.1 c.loop-at-test.true (part c.before.before.before.before.before.before.before.before.before.before) (part_to_end (source c.before.before.before.before.before.before.before.before.before.before) l.at) _ c.record_size-at.ensures
-          (Made (came c.before.before.before.before.before.before.before.before.before.before) _ (l.number + 1) (l.made + c.count_rules-made.result) (l.to + c.measure_rule-to.result))
+      pass-next l.invariant.1 c.loop-at-test.true (part at-loop-at) (part_to_end (source at-loop-at) l.at) _ c.record_size-at.ensures
+          (Made (came at-loop-at) _ (l.number + 1) (l.made + c.count_rules-made.result) (l.to + c.measure_rule-to.result))
           (λ w a m. made-next m a.made (c.write_rule.ensures m.the-rule m.starts) _ _
           c.count_rules-made.ensures c.measure_rule-to.ensures),
     )
@@ -96,14 +107,42 @@ returns : tie.Need-returns invariant-loop decreases-loop
 returns c w =
     made-end (along-end (c.loop-at.invariant.1 w) c.loop-at-test.false) c.write_end.ensures
 
+measure_rule-to-requires : tie.Need-measure_rule-to-requires invariant-loop decreases-loop
+measure_rule-to-requires c κs =
+    let at-part = c.before.before.before.before in
+    omega (arith, (next at-part).whole)
+
+count_rules-made-requires : tie.Need-count_rules-made-requires invariant-loop decreases-loop
+count_rules-made-requires c κs =
+    let at-part = c.before.before.before.before.before in
+    omega (arith, (next at-part).whole)
+
+record_size-at-requires : tie.Need-record_size-at-requires invariant-loop decreases-loop
+record_size-at-requires c κs =
+    let at-write_rule-arg = c.before.before.before.before.before in
+    let at-part = at-write_rule-arg.before in
+    omega (arith, (next at-part).whole)
+
+overflow_add-at : tie.Need-overflow_add-at invariant-loop decreases-loop
+overflow_add-at c =
+    let at-write_rule = c.before.before.before.before.before in
+    let at-part = at-write_rule.before.before in
+    omega (arith, (next at-part).fits, c.record_size-at.ensures)
+
+loop-at-smaller : tie.Need-loop-at-smaller invariant-loop decreases-loop
+loop-at-smaller c =
+    let at-write_rule = c.before.before.before.before.before in
+    let at-part = at-write_rule.before.before in
+    omega (arith, (next at-part).fits, c.record_size-at.ensures)
+
 pub write_rules_spec : {M : Type 1} → statement M
 write_rules_spec =
     tie.close (tie.spec invariant-loop decreases-loop
     (λ c. (refl, pass-start c.args.s.now _ (made-start c.args.out.now)))
     (λ c. omega (arith, opens c.before)) (λ c. omega (arith, opens c.before.before)) (λ c. omega (arith, opens c.before.before))
-    (λ c. search rules) write-rule-requires (λ c κs. omega (arith, (next c.before.before.before.before).whole)) add-to
-    (λ c κs. omega (arith, (next c.before.before.before.before.before).whole)) add-made
-    (λ c κs. omega (arith, (next c.before.before.before.before.before.before).whole))
-    (λ c. omega (arith, (next c.before.before.before.before.before.before.before).fits, c.record_size-at.ensures)) add-number
-    (λ c. omega (arith, (next c.before.before.before.before.before.before.before).fits, c.record_size-at.ensures)) loop-again cast-write-end
+    (λ c. search rules) write-rule-requires measure_rule-to-requires add-to
+    count_rules-made-requires add-made
+    record_size-at-requires
+    overflow_add-at add-number
+    loop-at-smaller loop-again cast-write-end
     write-end-requires same_length returns)

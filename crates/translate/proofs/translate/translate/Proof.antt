@@ -18,19 +18,25 @@ held c = sym c.read_items-file.ensures ∙ c.in-All.is
 
 translate-meant-requires : tie.Need-translate_meant-requires
 translate-meant-requires c κs =
+    let in-All = c.before.before.before.before in
+    let at-read_items-file = in-All.before in
     let a = c.args in
-    given-file a.lim a.s.now a.out.now c.requires.0 (bytes c.before.before.before.before.before) _ (held c.before.before.before.before) c.requires.1
+    given-file a.lim a.s.now a.out.now c.requires.0 (bytes at-read_items-file) _ (held in-All) c.requires.1
 
 returns : tie.Need-returns-then-has_sheets
 returns c =
+    let at-none = c.before.before.before.before.before in
+    let in-All = at-none.before.before.before in
+    let at-read_items-file = in-All.before in
     let a = c.args in
-    file-met a.lim a.s.now a.out.now c.requires.0 (bytes c.before.before.before.before.before.before.before.before.before) _ (held c.before.before.before.before.before.before.before.before) c.requires.1
+    file-met a.lim a.s.now a.out.now c.requires.0 (bytes at-read_items-file) _ (held in-All) c.requires.1
     c.translate_meant.ensures
 
 write-translation-requires : tie.Need-write_translation-requires
 write-translation-requires c κs =
+    let at-read_items-file = c.before.before.before.before in
     let a = c.args in
-    given a.lim a.s.now a.out.now c.requires.0 (bytes c.before.before.before.before) _ (held c.before.before.before) (sym c.has_sheets.ensures ∙ c.if-has_sheets.false)
+    given a.lim a.s.now a.out.now c.requires.0 (bytes at-read_items-file) _ (held c.before.before.before) (sym c.has_sheets.ensures ∙ c.if-has_sheets.false)
 
 returns-2 : tie.Need-returns-in-Refused
 returns-2 c =
@@ -39,8 +45,11 @@ returns-2 c =
 
 returns-3 : tie.Need-returns-else-has_sheets
 returns-3 c =
+    let at-has_sheets = c.before.before.before.before.before in
+    let in-All = at-has_sheets.before in
+    let at-read_items-file = in-All.before in
     let a = c.args in
-    read-met a.lim a.s.now a.out.now c.requires.0 (bytes c.before.before.before.before.before.before.before) _ (held c.before.before.before.before.before.before)
+    read-met a.lim a.s.now a.out.now c.requires.0 (bytes at-read_items-file) _ (held in-All)
     (sym c.has_sheets.ensures ∙ c.if-has_sheets.false) c.write_translation.ensures
 
 pub translate_spec : {M : Type 1} → statement M
