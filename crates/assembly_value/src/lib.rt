@@ -5,13 +5,13 @@
 use record::Reading;
 
 // An assembly's state. All zero is a state before the first begin, and so count bytes that no call gives back.
-#[derive(Drop)]
+#[derive(Clone, Copy)]
 pub struct Assembly {
     pub bytes: [u8; 520],
 }
 
 // What a call answers, the number of rules then held or a refusal, and the state then.
-#[derive(Drop)]
+#[derive(Clone, Copy)]
 pub struct Assembled {
     pub answer: Reading,
     pub state: Assembly,

@@ -5,7 +5,7 @@ use Prim.Native.Nat.{ℕ, ◌+◌, ◌≤◌, ◌<◌}
 use native.Mathlib.Omega.{arith}
 use native.Mathlib.Nat.{add-zero}
 use mathlib.Core.Path.{◌≡◌, refl, sym, ◌∙◌, ap, ap₂}
-use mathlib.Core.Bool.{Bool, true, false, ◌&&◌, true≢false, and-false}
+use mathlib.Core.Bool.{Bool, true, false, ◌&&◌, true≢false}
 use mathlib.Core.List.{List}
 use lib.Dec.{leb, eqb}
 use lib.ListN.{length, get_or, drop}
@@ -22,7 +22,7 @@ use Rattle.literal.proofs.Laws.Literal.{decoded-fields, valid-some}
 use Rattle.semantics.specs.Set.{same_signed}
 use Rattle.record.specs.declared.Reason.TheVariants.{LiteralWrong}
 use Rattle.record.specs.Refusal.{refusal}
-use Rattle.record.specs.Result.{Result, accepted, refused}
+use Rattle.record.specs.Result.{accepted, refused}
 use Rattle.record.specs.Reading.{signed_of, signed_at, opposition_at}
 use Rattle.record.specs.Code.{step_of}
 use Rattle.record.proofs.Laws.Header.{opposition-one, opposition-other, opposition-same, opposition-right}

@@ -5,9 +5,7 @@ use Prim.Native.Nat.{ℕ, zero, suc, ◌+◌, ◌≤◌, ◌<◌}
 use native.Mathlib.Omega.{arith}
 use native.Mathlib.Numerals.{add-one}
 use mathlib.Core.Path.{◌≡◌, refl, sym, ◌∙◌, ap, ap₂, subst}
-use mathlib.Core.Bool.{cond}
 use mathlib.Core.List.{List, [], ◌∷◌, ◌++◌, map, map-append}
-use lib.Dec.{eqb}
 use lib.ListN.{length, drop, length-append}
 use borrow.Author.Tests.{eq-eqb, ne_eqb}
 use Rattle.semantics.specs.Rule.{Rule, Program}
@@ -15,15 +13,15 @@ use Rattle.semantics.specs.Item.{Item, rule, override, opposition, rules}
 use Rattle.semantics.specs.Translation.{record_length}
 use Rattle.semantics.proofs.Laws.Expansion.{rules-append}
 use Rattle.record.specs.Header.{override_letter, opposition_letter, letter_of}
-use Rattle.record.specs.Layout.{encoded_rule, encoded_rules, encoded_end, encoded_override, encoded_opposition, encoded_item, encoded_items, encoded_file}
-use Rattle.record.proofs.Laws.Layout.{length-encoded-rule, item_length, length-encoded-item, encoded-items-append}
+use Rattle.record.specs.Layout.{encoded_rule, encoded_end, encoded_override, encoded_opposition, encoded_item, encoded_items, encoded_file}
+use Rattle.record.proofs.Laws.Layout.{length-encoded-rule, item_length, encoded-items-append}
 use Rattle.record.proofs.Laws.Unsheeted.{rules-of, items-bytes}
 use Rattle.record_walk.specs.Code.{record_size, item_size}
 use Rattle.record_walk.proofs.Laws.Walk.{Walk, More}
 use Rattle.record_walk.proofs.Laws.Items.{StartsItem, ItemWalk, MoreItem, item-letter, item_letter, rule-letter, items-end, items_more}
 use Rattle.record_show.specs.declared.Extent.{Extent}
 use Rattle.record_show.specs.Show.{extent_from}
-use Rattle.record_show.specs.Code.{Numbered, NumberedIn, rules_in}
+use Rattle.record_show.specs.Code.{NumberedIn, rules_in}
 
 -- where the record of r lies, in a file with r behind some items
 extent-from : (before : List Item) (r : Rule) (after : List Item) (at : ℕ)

@@ -5,16 +5,13 @@
 use Prim.Native.Nat.{ℕ, ◌+◌, ◌≤◌}
 use native.Mathlib.Omega.{arith}
 use mathlib.Core.Path.{◌≡◌, refl, sym, ◌∙◌, ap, subst}
-use mathlib.Core.Bool.{true, false, cond}
 use mathlib.Core.List.{List, [], ◌∷◌, ◌++◌, append_assoc, append-nil}
-use lib.Dec.{eqb}
 use lib.ListN.{length, get_or, drop, length-append, length-drop}
 use lib.Seq.{drop-drop, drop_at}
 use borrow.Author.Tests.{eq-eqb, ne_eqb}
 use Rattle.semantics.specs.Rule.{Rule, strict, defeasible}
 use Rattle.semantics.specs.Expansion.{Override, Opposition}
 use Rattle.semantics.specs.Item.{Item, rule, override, opposition, rules}
-use Rattle.semantics.specs.Translation.{record_length}
 use Rattle.record.specs.Header.{strict_letter, defeasible_letter, end_letter, override_letter, opposition_letter, letter_of}
 use Rattle.record.specs.Layout.{encoded_end, encoded_override, encoded_opposition, encoded_item, encoded_items, encoded_file}
 use Rattle.record.proofs.Laws.Layout.{item_length, length-encoded-item, encoded-items-append, length-end}

@@ -1,6 +1,5 @@
 -- `append::write_pair` meets its contract: one way, and the other behind it.
 -- Assumes nothing.
-use denote.Slice.{shr_slice_at}
 use native.Mathlib.Omega.{arith}
 use borrow.Author.Rules.{rules}
 use Rattle.expand_rules.proofs.Laws.Defeat.{length-pair, pair-written}

@@ -3,7 +3,6 @@
 use native.Mathlib.Omega.{arith}
 use mathlib.Core.Path.{sym, ◌∙◌}
 use borrow.Author.Rules.{rules}
-use borrow.Author.Tests.{not-true, not-false}
 use Rattle.expand_rules.proofs.Laws.Defeat.{way-room, way-skipped, way-written}
 use Rattle.expand_rules.proofs.append.write_way.Statement.{statement}
 use Rattle.expand_rules.proofs.append.write_way.Tie as tie

@@ -1,14 +1,13 @@
 -- `read::read_items` meets its contract. Invariant: what is answered is what the part from `at` on comes to with what is held, and
 -- each item that is held took six bytes or more. Measure: the bytes left.
 -- Assumes nothing.
-use Prim.Native.Nat.{ℕ, ◌+◌, ◌*◌, ◌-◌, ◌≤◌, ◌<◌}
+use Prim.Native.Nat.{ℕ, ◌*◌, ◌-◌, ◌≤◌}
 use native.Mathlib.Omega.{arith}
 use mathlib.Core.List.{List}
 use mathlib.Core.Path.{◌≡◌, sym, ◌∙◌, ap}
 use lib.ListN.{length, drop, length-drop}
 use borrow.Author.Rules.{rules}
 use borrow.Author.Rules.{part_to_end}
-use Rattle.record.specs.declared.Held.{Held}
 use Rattle.record.specs.Reading.{record_at, items, holding_of}
 use Rattle.record.specs.Code.{step_of, found_of, total, left}
 use Rattle.record.specs.Refusal.{shifted}

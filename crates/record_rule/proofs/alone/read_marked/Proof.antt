@@ -1,7 +1,7 @@
 -- `alone::read_marked` meets its contract: what the front tells, or what the literals come to.
 -- Assumes nothing.
 use native.Mathlib.Omega.{arith}
-use mathlib.Core.Path.{◌≡◌, refl, sym, ◌∙◌}
+use mathlib.Core.Path.{refl, sym, ◌∙◌}
 use mathlib.Core.Bool.{true≢false}
 use borrow.Author.Rules.{rules}
 use Rattle.record.specs.Reading.{rules_held, record_at}

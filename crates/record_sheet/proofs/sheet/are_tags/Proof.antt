@@ -3,7 +3,6 @@
 use mathlib.Core.Path.{sym, ◌∙◌, ap}
 use mathlib.Core.Bool.{Bool, ◌&&◌}
 use borrow.Author.Rules.{rules}
-use borrow.Author.Tests.{not-true, not-false}
 use Rattle.literal.specs.Literal.{in_range}
 use Rattle.record_sheet.proofs.sheet.are_tags.Statement.{statement}
 use Rattle.record_sheet.proofs.sheet.are_tags.Tie as tie

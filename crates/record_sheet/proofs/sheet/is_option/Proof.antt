@@ -2,7 +2,6 @@
 -- Assumes nothing.
 use mathlib.Core.Path.{sym, ◌∙◌}
 use borrow.Author.Rules.{rules}
-use borrow.Author.Tests.{not-true, not-false}
 use Rattle.record_sheet.proofs.Laws.Sheet.{signed-invalid, signed-kind}
 use Rattle.record_sheet.proofs.sheet.is_option.Statement.{statement}
 use Rattle.record_sheet.proofs.sheet.is_option.Tie as tie

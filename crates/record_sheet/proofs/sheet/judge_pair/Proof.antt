@@ -3,7 +3,6 @@
 use mathlib.Core.Path.{sym, ◌∙◌, ap, ap₂}
 use mathlib.Core.Bool.{Bool, true}
 use borrow.Author.Rules.{rules}
-use borrow.Author.Tests.{not-true, not-false}
 use Rattle.record_sheet.specs.Code.{pair_step}
 use Rattle.record_sheet.proofs.sheet.judge_pair.Statement.{statement}
 use Rattle.record_sheet.proofs.sheet.judge_pair.Tie as tie

@@ -2,14 +2,14 @@
 -- Assumes nothing.
 use Prim.Native.Nat.{◌<◌}
 use native.Mathlib.Omega.{arith}
-use mathlib.Core.Path.{◌≡◌, sym, ◌∙◌, ap}
-use lib.ListN.{drop, length-take, length-drop}
+use mathlib.Core.Path.{sym, ◌∙◌, ap}
+use lib.ListN.{length-take, length-drop}
 use borrow.Author.Rules.{rules}
 use borrow.Author.Tests.{leb-true, leb-false}
 use borrow.Author.Rules.{part_to_end}
 use Rattle.literal.specs.Literal.{decoded}
 use Rattle.record.proofs.Laws.Header.{opposition-many, opposition-cut}
-use Rattle.record_sheet.specs.Code.{is_signed, pair_step}
+use Rattle.record_sheet.specs.Code.{is_signed}
 use Rattle.record_sheet.proofs.Laws.Sheet.{opposition-pair, pair-told}
 use Rattle.record_sheet.proofs.sheet.read_opposition.Statement.{statement}
 use Rattle.record_sheet.proofs.sheet.read_opposition.Tie as tie

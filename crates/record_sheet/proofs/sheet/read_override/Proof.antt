@@ -4,7 +4,7 @@ use mathlib.Core.Path.{sym, ◌∙◌, ap₂}
 use mathlib.Core.Bool.{◌&&◌}
 use Prim.Native.Nat.{ℕ, ◌<◌}
 use borrow.Author.Rules.{rules}
-use borrow.Author.Tests.{leb-true, leb-false, not-true, not-false}
+use borrow.Author.Tests.{leb-true, leb-false}
 use Rattle.literal.specs.Literal.{in_range}
 use Rattle.record.proofs.Laws.Header.{override-many, override-cut, override-tag, override-same, override-right}
 use Rattle.record_sheet.proofs.sheet.read_override.Statement.{statement}

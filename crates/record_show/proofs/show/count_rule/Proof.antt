@@ -1,7 +1,6 @@
 -- `show::count_rule` meets its contract: a case for each letter.
 -- Assumes nothing.
 use mathlib.Core.Path.{sym}
-use borrow.Author.Rules.{rules}
 use Rattle.record_show.proofs.Laws.Extent.{count-override, count-opposition, count-rule}
 use Rattle.record_show.proofs.show.count_rule.Statement.{statement}
 use Rattle.record_show.proofs.show.count_rule.Tie as tie

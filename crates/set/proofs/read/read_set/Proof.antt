@@ -3,7 +3,6 @@
 use native.Mathlib.Omega.{arith}
 use mathlib.Core.Path.{sym, ◌∙◌, ap}
 use borrow.Author.Rules.{rules}
-use borrow.Author.Tests.{not-true, not-false}
 use Rattle.record.specs.declared.Reading.{Reading}
 use Rattle.set.specs.Code.{members_above}
 use Rattle.set.proofs.Laws.Shape.{shaped}
