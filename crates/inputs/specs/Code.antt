@@ -7,7 +7,7 @@ use Rattle.semantics.specs.Item.{Item}
 use Rattle.record.specs.declared.Held.{Held}
 use Rattle.record.specs.declared.Holding.{Holding}
 use Rattle.record.specs.Result.{Result, accepted, refused}
-use Rattle.record.specs.Reading.{items, held_of, holding_of}
+use Rattle.record.specs.Reading.{items, held_of}
 use Rattle.set.specs.Reading.{parsed_set}
 use Rattle.inputs.specs.declared.Both.{Both}
 

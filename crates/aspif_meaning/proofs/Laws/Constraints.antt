@@ -12,7 +12,7 @@ use Rattle.literal.specs.declared.Literal.TheVariants.{Signed, Defeated, Derived
 use Rattle.semantics.specs.Set.{LiteralSet, each_of}
 use Rattle.semantics.proofs.Laws.Tests.{both, first, second, along, all_append}
 use Rattle.aspif_meaning.specs.Ground.{NumberSet}
-use Rattle.aspif_meaning.specs.Program.{never_both, constraints_of, constraints_from, constraints}
+use Rattle.aspif_meaning.specs.Program.{never_both, constraints_of, constraints_from}
 use Rattle.aspif_meaning.proofs.Laws.Ground.{kept_in}
 
 -- no atom that s has both ways, the positive one in ls, is in y both ways

@@ -2,7 +2,7 @@
 -- In order: items that are read; what is asked of the program that they mean; the normal form; the form of sources. Assumes nothing.
 use Prim.Native.Nat.{ℕ, ◌≤◌}
 use native.Mathlib.Omega.{arith}
-use mathlib.Core.Path.{◌≡◌, ap, subst}
+use mathlib.Core.Path.{◌≡◌, ap}
 use mathlib.Core.List.{List}
 use lib.ListN.{length, take, length-append, length-take}
 use Rattle.buffer.specs.Bytes.{Bytes}
@@ -11,7 +11,7 @@ use Rattle.literal.specs.Limits.{source}
 use Rattle.semantics.specs.Rule.{Program}
 use Rattle.semantics.specs.Item.{Item, rules, expanded}
 use Rattle.record.specs.Result.{accepted}
-use Rattle.record.specs.Layout.{encoded_rules, encoded_end, encoded_items, encoded_file}
+use Rattle.record.specs.Layout.{encoded_end, encoded_items, encoded_file}
 use Rattle.record.specs.Reading.{items}
 use Rattle.record.proofs.Laws.Layout.{rules-within, length-end}
 use Rattle.record.proofs.Laws.Keeps.{kept-file}

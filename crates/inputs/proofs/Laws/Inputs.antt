@@ -14,7 +14,7 @@ use Rattle.record.specs.declared.Holding.{Holding}
 use Rattle.record.specs.declared.Refusal.{Refusal}
 use Rattle.record.specs.declared.Reading.{Reading}
 use Rattle.record.specs.Result.{Result, accepted, refused, and_then}
-use Rattle.record.specs.Reading.{items, parsed, held_of, holding_of, reading_of}
+use Rattle.record.specs.Reading.{items, parsed, held_of, holding_of}
 use Rattle.record.proofs.Laws.Reading.{read_count, read-refused, held_items, held-refused, items-parsed}
 use Rattle.set.specs.Reading.{parsed_set}
 use Rattle.set.specs.Code.{set_reading}

@@ -1,6 +1,5 @@
 -- `normal::write_normal` meets its contract: its arrays are empty, and what the first pass leaves is what the second asks for.
 -- Assumes nothing.
-use denote.Slice.{shr_slice_at}
 use Prim.Native.Nat.{ℕ}
 use mathlib.Core.Path.{refl}
 use lib.ListN.{length, replicate, length-replicate}

@@ -1,6 +1,5 @@
 -- `read::read_inputs` meets its contract: the file's refusal, the set's, or what both hold.
 -- Assumes nothing.
-use Prim.Native.Nat.{ℕ}
 use mathlib.Core.Path.{sym, ◌∙◌, ap}
 use borrow.Author.Rules.{rules}
 use Rattle.record.specs.declared.Holding.{Holding}

@@ -1,7 +1,6 @@
 -- `quotient::divide_program` meets its contract: 9, or what the pass gives.
 -- Assumes nothing.
 use borrow.Author.Rules.{rules}
-use borrow.Author.Tests.{not-true, not-false}
 use Rattle.buffer.specs.Bytes.{Bytes}
 use Rattle.quotient.proofs.Laws.Quotient.{long, ascends, short-met, fitting, written-met}
 use Rattle.quotient.proofs.quotient.divide_program.Statement.{statement}
