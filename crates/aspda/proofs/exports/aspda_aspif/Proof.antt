@@ -9,17 +9,16 @@ use Rattle.aspda.proofs.Laws.Words.{exported-short}
 use Rattle.aspda.proofs.exports.aspda_aspif.Statement.{statement}
 use Rattle.aspda.proofs.exports.aspda_aspif.Tie as tie
 
-written-word-requires : tie.Need-written-word-requires
+written-word-requires : tie.Need-written_word-requires
 unfolding plain
 written-word-requires c κs =
-    let at-export-plain-arg = c.before.before.before in
-    let a = at-export-plain-arg.before.before.before.args in
-    exported-short plain (omega arith) a.s.now a.out.now _ c.before.before.export-plain.ensures.answer
+    let a = c.args in
+    exported-short plain (omega arith) a.s.now a.out.now _ c.export_plain.ensures.answer
 
 returns : tie.Need-returns
 returns c =
-    let met = c.before.before.before.export-plain.ensures in
-    record { answer = c.written-word.ensures ∙ ap written_word met.answer; buffer = met.buffer }
+    let met = c.export_plain.ensures in
+    record { answer = c.written_word.ensures ∙ ap written_word met.answer; buffer = met.buffer }
 
 pub aspda_aspif_spec : {M : Type 1} → statement M
 aspda_aspif_spec = tie.close (tie.spec (λ c κs. search rules) written-word-requires (λ c. search rules) returns)

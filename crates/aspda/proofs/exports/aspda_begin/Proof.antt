@@ -8,16 +8,15 @@ use Rattle.aspda.proofs.Laws.Words.{called-short}
 use Rattle.aspda.proofs.exports.aspda_begin.Statement.{statement}
 use Rattle.aspda.proofs.exports.aspda_begin.Tie as tie
 
-reading-word-requires : tie.Need-reading-word-requires
+reading-word-requires : tie.Need-reading_word-requires
 reading-word-requires c κs =
-    let at-begin = c.before.before in
-    let a = at-begin.before.before.before.before.args in
-    called-short begin a.state.now a.out.now _ at-begin.begin-state.ensures.answer
+    let a = c.args in
+    called-short begin a.state.now a.out.now _ c.begin_state.ensures.answer
 
 returns : tie.Need-returns
 returns c =
-    let kept = c.before.before.before.begin-state.ensures in
-    record { answer = c.reading-word.ensures ∙ ap reading_word kept.answer; state = kept.state }
+    let kept = c.begin_state.ensures in
+    record { answer = c.reading_word.ensures ∙ ap reading_word kept.answer; state = kept.state }
 
 pub aspda_begin_spec : {M : Type 1} → statement M
 aspda_begin_spec = tie.close (tie.spec (λ c κs. search rules) reading-word-requires (λ c. search rules) returns)

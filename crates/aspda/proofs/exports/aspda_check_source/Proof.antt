@@ -9,20 +9,18 @@ use Rattle.aspda.proofs.Laws.Verdicts.{checked-short}
 use Rattle.aspda.proofs.exports.aspda_check_source.Statement.{statement}
 use Rattle.aspda.proofs.exports.aspda_check_source.Tie as tie
 
-check-word-requires : tie.Need-check-word-requires
+check-word-requires : tie.Need-check_word-requires
 unfolding source
 check-word-requires c κs =
-    let at-check-source = c.before.before in
-    let at-shared-slice-known2 = at-check-source.before.before.before in
-    let a = at-shared-slice-known2.before.before.args in
+    let a = c.args in
     checked-short source (omega arith) (omega arith) (omega arith) a.s.now a.k.now a.out.now
-    (λ i. (at-shared-slice-known2.before.shared-slice-known.given i).fits)
-    (λ i. (at-shared-slice-known2.shared-slice-known2.given i).fits) _ at-check-source.check_source.ensures.answer
+    (λ i. (c.shared_slice_known-1.given i).fits)
+    (λ i. (c.shared_slice_known-2-1.given i).fits) _ c.check_source.ensures.answer
 
 returns : tie.Need-returns
 returns c =
-    let met = c.before.before.before.check_source.ensures in
-    record { answer = c.check-word.ensures ∙ ap check_word met.answer; buffer = met.buffer }
+    let met = c.check_source.ensures in
+    record { answer = c.check_word.ensures ∙ ap check_word met.answer; buffer = met.buffer }
 
 pub aspda_check_source_spec : {M : Type 1} → statement M
 aspda_check_source_spec = tie.close (tie.spec (λ c κs. search rules) check-word-requires (λ c. search rules) returns)

@@ -8,17 +8,15 @@ use Rattle.aspda.proofs.Laws.Words.{called-short}
 use Rattle.aspda.proofs.exports.aspda_close.Statement.{statement}
 use Rattle.aspda.proofs.exports.aspda_close.Tie as tie
 
-reading-word-requires : tie.Need-reading-word-requires
+reading-word-requires : tie.Need-reading_word-requires
 reading-word-requires c κs =
-    let at-close = c.before.before.before.before in
-    let a = at-close.before.before.before.before.before.args in
-    called-short close a.state.now a.out.now _ at-close.close-state.ensures.answer
+    let a = c.args in
+    called-short close a.state.now a.out.now _ c.close_state.ensures.answer
 
 returns : tie.Need-returns
 returns c =
-    let at-close = c.before.before.before.before.before in
-    let met = at-close.close-state.ensures in
-    record { answer = c.reading-word.ensures ∙ ap reading_word met.answer; state = met.state; buffer = met.buffer }
+    let met = c.close_state.ensures in
+    record { answer = c.reading_word.ensures ∙ ap reading_word met.answer; state = met.state; buffer = met.buffer }
 
 pub aspda_close_spec : {M : Type 1} → statement M
 aspda_close_spec = tie.close (tie.spec (λ c κs. search rules) reading-word-requires (λ c. search rules) (λ c. search rules) returns)

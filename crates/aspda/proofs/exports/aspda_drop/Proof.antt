@@ -9,16 +9,15 @@ use Rattle.aspda.proofs.Laws.Words.{called-short}
 use Rattle.aspda.proofs.exports.aspda_drop.Statement.{statement}
 use Rattle.aspda.proofs.exports.aspda_drop.Tie as tie
 
-reading-word-requires : tie.Need-reading-word-requires
+reading-word-requires : tie.Need-reading_word-requires
 reading-word-requires c κs =
-    let at_drop = c.before.before in
-    let a = at_drop.before.before.before.args in
-    called-short drop_last a.state.now [] _ at_drop.drop-last.ensures.answer
+    let a = c.args in
+    called-short drop_last a.state.now [] _ c.drop_last.ensures.answer
 
 returns : tie.Need-returns
 returns c =
-    let kept = c.before.before.before.drop-last.ensures in
-    record { answer = c.reading-word.ensures ∙ ap reading_word kept.answer; state = kept.state }
+    let kept = c.drop_last.ensures in
+    record { answer = c.reading_word.ensures ∙ ap reading_word kept.answer; state = kept.state }
 
 pub aspda_drop_spec : {M : Type 1} → statement M
 aspda_drop_spec = tie.close (tie.spec (λ c κs. search rules) reading-word-requires (λ c. search rules) returns)

@@ -9,18 +9,16 @@ use Rattle.aspda.proofs.Laws.Words.{extended-short}
 use Rattle.aspda.proofs.exports.aspda_extend.Statement.{statement}
 use Rattle.aspda.proofs.exports.aspda_extend.Tie as tie
 
-written-word-requires : tie.Need-written-word-requires
+written-word-requires : tie.Need-written_word-requires
 unfolding source
 written-word-requires c κs =
-    let at-extend-source = c.before.before in
-    let at-shared-slice-known2 = at-extend-source.before.before.before in
-    let a = at-shared-slice-known2.before.before.args in
-    extended-short source (omega arith) a.s.now (omega arith) a.k.now a.out.now _ at-extend-source.extend-source.ensures.answer
+    let a = c.args in
+    extended-short source (omega arith) a.s.now (omega arith) a.k.now a.out.now _ c.extend_source.ensures.answer
 
 returns : tie.Need-returns
 returns c =
-    let met = c.before.before.before.extend-source.ensures in
-    record { answer = c.written-word.ensures ∙ ap written_word met.answer; buffer = met.buffer }
+    let met = c.extend_source.ensures in
+    record { answer = c.written_word.ensures ∙ ap written_word met.answer; buffer = met.buffer }
 
 pub aspda_extend_spec : {M : Type 1} → statement M
 aspda_extend_spec = tie.close (tie.spec (λ c κs. search rules) written-word-requires (λ c. search rules) returns)

@@ -9,18 +9,16 @@ use Rattle.aspda.proofs.Laws.Words.{quotiented-short}
 use Rattle.aspda.proofs.exports.aspda_quotient_plain.Statement.{statement}
 use Rattle.aspda.proofs.exports.aspda_quotient_plain.Tie as tie
 
-written-word-requires : tie.Need-written-word-requires
+written-word-requires : tie.Need-written_word-requires
 unfolding plain
 written-word-requires c κs =
-    let at-quotient-plain = c.before.before in
-    let at-shared-slice-known2 = at-quotient-plain.before.before.before in
-    let a = at-shared-slice-known2.before.before.args in
-    quotiented-short plain (omega arith) a.s.now (omega arith) a.k.now a.out.now _ at-quotient-plain.quotient_plain.ensures.answer
+    let a = c.args in
+    quotiented-short plain (omega arith) a.s.now (omega arith) a.k.now a.out.now _ c.quotient_plain.ensures.answer
 
 returns : tie.Need-returns
 returns c =
-    let met = c.before.before.before.quotient_plain.ensures in
-    record { answer = c.written-word.ensures ∙ ap written_word met.answer; buffer = met.buffer }
+    let met = c.quotient_plain.ensures in
+    record { answer = c.written_word.ensures ∙ ap written_word met.answer; buffer = met.buffer }
 
 pub aspda_quotient_plain_spec : {M : Type 1} → statement M
 aspda_quotient_plain_spec = tie.close (tie.spec (λ c κs. search rules) written-word-requires (λ c. search rules) returns)

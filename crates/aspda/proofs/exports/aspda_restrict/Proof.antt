@@ -9,17 +9,16 @@ use Rattle.aspda.proofs.Laws.Words.{restricted-short}
 use Rattle.aspda.proofs.exports.aspda_restrict.Statement.{statement}
 use Rattle.aspda.proofs.exports.aspda_restrict.Tie as tie
 
-written-word-requires : tie.Need-written-word-requires
+written-word-requires : tie.Need-written_word-requires
 unfolding plain
 written-word-requires c κs =
-    let at-restrict-plain-arg = c.before.before.before in
-    let a = at-restrict-plain-arg.before.before.before.args in
-    restricted-short plain (omega arith) a.k.now (omega arith) a.out.now _ c.before.before.restrict-plain.ensures.answer
+    let a = c.args in
+    restricted-short plain (omega arith) a.k.now (omega arith) a.out.now _ c.restrict_plain.ensures.answer
 
 returns : tie.Need-returns
 returns c =
-    let met = c.before.before.before.restrict-plain.ensures in
-    record { answer = c.written-word.ensures ∙ ap written_word met.answer; buffer = met.buffer }
+    let met = c.restrict_plain.ensures in
+    record { answer = c.written_word.ensures ∙ ap written_word met.answer; buffer = met.buffer }
 
 pub aspda_restrict_spec : {M : Type 1} → statement M
 aspda_restrict_spec = tie.close (tie.spec (λ c κs. search rules) written-word-requires (λ c. search rules) returns)

@@ -9,17 +9,16 @@ use Rattle.aspda.proofs.Laws.Words.{translated-short}
 use Rattle.aspda.proofs.exports.aspda_translate.Statement.{statement}
 use Rattle.aspda.proofs.exports.aspda_translate.Tie as tie
 
-written-word-requires : tie.Need-written-word-requires
+written-word-requires : tie.Need-written_word-requires
 unfolding source
 written-word-requires c κs =
-    let at-translate-source-arg = c.before.before.before in
-    let a = at-translate-source-arg.before.before.before.args in
-    translated-short source (omega arith) a.s.now a.out.now _ c.before.before.translate-source.ensures.answer
+    let a = c.args in
+    translated-short source (omega arith) a.s.now a.out.now _ c.translate_source.ensures.answer
 
 returns : tie.Need-returns
 returns c =
-    let met = c.before.before.before.translate-source.ensures in
-    record { answer = c.written-word.ensures ∙ ap written_word met.answer; buffer = met.buffer }
+    let met = c.translate_source.ensures in
+    record { answer = c.written_word.ensures ∙ ap written_word met.answer; buffer = met.buffer }
 
 pub aspda_translate_spec : {M : Type 1} → statement M
 aspda_translate_spec = tie.close (tie.spec (λ c κs. search rules) written-word-requires (λ c. search rules) returns)
