@@ -3,7 +3,6 @@
 -- In order: any mask with a property, and the first; masks between two bounds with a property.
 -- Assumes nothing.
 use Rattle.std.specs.Prelude.{ℕ, ◌≤◌, ◌≡◌, true, false}
-use Rattle.std.proofs.Math.Option.{none}
 use Rattle.check_force.specs.Code.{Between}
 use Rattle.check_search.specs.declared.Found.{Found}
 

@@ -104,8 +104,9 @@ fn check_meant(
 }
 
 // Checks a set against the program that a file with sheets means, with arrays for its normal form and for a clause of each rule, appended ones
-// too.
+// too, which are to be in no caller's frame.
 #[cycle(check_meant_check_sheets)]
+#[inline(never)]
 fn check_sheets(s: &[u8], k: &[u8], n: usize, out: &mut [u8]) -> Check
     requires { CheckingFile normal_bytes s.now k.now n expanded_rules expanded_rules }
     ensures { (w : CheckingFile normal_bytes s.now k.now n expanded_rules expanded_rules) → MeetsCheck (check_of (expanded w.file.items) w.literals k.now out.old) result out.new }

@@ -71,8 +71,9 @@ fn divide_meant(
     divide_meant(&normal[..n], made.sheeted, k, count, &mut none, out)
 }
 
-// The quotient of the program that a file with sheets means, with an array for its normal form.
+// The quotient of the program that a file with sheets means, with an array for its normal form, which is to be in no caller's frame.
 #[cycle(divide_meant_divide_sheets)]
+#[inline(never)]
 fn divide_sheets(s: &[u8], k: &[u8], count: usize, out: &mut [u8]) -> Written
     requires { Given true s.now k.now count }
     ensures { Answered true s.now k.now count out.old result out.new }

@@ -53,8 +53,9 @@ fn translate_meant(s: &[u8], sheeted: bool, normal: &mut [u8], out: &mut [u8]) -
     translate_meant(&normal[..n], made.sheeted, &mut none, out)
 }
 
-// The translation of the program that a file with sheets means, with an array for its normal form.
+// The translation of the program that a file with sheets means, with an array for its normal form, which is to be in no caller's frame.
 #[cycle(translate_meant_translate_sheets)]
+#[inline(never)]
 fn translate_sheets(s: &[u8], out: &mut [u8]) -> Written
     requires { Given true s.now }
     ensures { Answered true s.now out.old result out.new }

@@ -1,10 +1,9 @@
 -- An assembly's calls and histories, as the claims state them of sources.
 -- In order: one call; the promise over a history; the words of calls.
 -- Assumes nothing.
-use Prim.Native.Nat.{ℕ, ◌+◌, ◌*◌, ◌^◌, ◌≤◌, ◌<◌}
+use Prim.Native.Nat.{ℕ, ◌+◌, ◌^◌, ◌<◌}
 use native.Mathlib.Omega.{arith}
-use mathlib.Core.Path.{◌≡◌, refl, sym, ◌∙◌, ap, ap₂, subst}
-use mathlib.Core.Bool.{true}
+use mathlib.Core.Path.{◌≡◌, refl, sym, ◌∙◌, ap}
 use mathlib.Core.List.{List, [], ◌∷◌, ◌++◌, map, map-append}
 use lib.Dec.{T}
 use lib.ListN.{length, take, drop}
@@ -18,21 +17,17 @@ use Rattle.literal.specs.Literal.{takes, in_range, most_kind, kind, ranged}
 use Rattle.literal.specs.Limits.{source}
 use Rattle.literal.proofs.Laws.Literal.{TwoBytes}
 use Rattle.semantics.specs.Rule.{Rule, Program}
-use Rattle.semantics.specs.Item.{Item, rule, rules}
-use Rattle.record.specs.declared.Reading.{Reading}
-use Rattle.record.specs.declared.Reading.TheVariants.{Count}
+use Rattle.semantics.specs.Item.{rule}
 use Rattle.record.specs.Result.{accepted}
-use Rattle.record.specs.Layout.{encoded_rule, encoded_rules, encoded_items}
+use Rattle.record.specs.Layout.{encoded_rule, encoded_rules}
 use Rattle.record.specs.Reading.{items}
 use Rattle.record.proofs.Laws.Unsheeted.{rules-of, items-bytes}
-use Rattle.record_show.specs.declared.Extent.{Extent}
-use Rattle.record_show.specs.declared.Shown.{Shown}
 use Rattle.record_show.specs.declared.Shown.TheVariants.{At}
 use Rattle.record_show.specs.Show.{shown}
 use Rattle.record_show.proofs.Laws.Record.{shown-behind, shown-record}
-use Rattle.assembly.specs.State.{Shape, state_bytes, closed, shapes, held_length, stage_of}
+use Rattle.assembly.specs.State.{state_bytes, stage_of}
 use Rattle.assembly.specs.Calls.{Call, begin, called, assembled}
-use Rattle.assembly.specs.History.{Session, called_in, after, run, rules_after, BytesIn, AllBytes}
+use Rattle.assembly.specs.History.{after, run, rules_after, BytesIn}
 use Rattle.assembly.proofs.Laws.State.{state-iff, stage-none}
 use Rattle.assembly.proofs.Laws.Session.{refused_same, answer-blind, begin-writes-none, drop-writes-none, stays-state, begun-state}
 use Rattle.assembly.proofs.Laws.History.{held-count, never-short, assembled-reads}

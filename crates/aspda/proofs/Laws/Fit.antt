@@ -1,6 +1,5 @@
 -- The literals that a program within a form's limits speaks of fit two bytes, where the form's figures do.
 -- In order: a rule; a program. Assumes nothing.
-use Prim.Native.Nat.{ℕ}
 use native.Mathlib.Omega.{arith}
 use mathlib.Core.List.{List}
 use lib.Dec.{T}

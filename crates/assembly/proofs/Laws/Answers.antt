@@ -4,10 +4,10 @@
 use Prim.Native.Nat.{ℕ, ◌+◌, ◌*◌, ◌≤◌}
 use native.Mathlib.Omega.{arith}
 use mathlib.Core.Path.{◌≡◌, refl, sym, ◌∙◌, ap, subst}
-use mathlib.Core.Bool.{Bool, true, false, not}
-use mathlib.Core.List.{List, []}
-use lib.Dec.{T, eqb}
-use lib.ListN.{length, take}
+use mathlib.Core.Bool.{Bool, true, false}
+use mathlib.Core.List.{List}
+use lib.Dec.{T}
+use lib.ListN.{length}
 use Rattle.buffer.specs.Bytes.{Bytes}
 use Rattle.literal.specs.declared.Limits.{Limits}
 use Rattle.semantics.proofs.Laws.Tests.{along}
@@ -18,11 +18,11 @@ use Rattle.record.specs.Reading.{rule_only}
 use Rattle.record.proofs.Laws.Result.{refuse-if-accepted}
 use Rattle.record.proofs.Laws.Places.{Placed, refuse-if-placed, and-then-placed}
 use Rattle.record.proofs.Laws.Only.{only-placed}
-use Rattle.assembly.specs.State.{Stage, before, opened, closed, Shape, shapes, keeps_stage, encoded_stage, is_state, stage_of}
+use Rattle.assembly.specs.State.{Stage, before, opened, closed, shapes, keeps_stage, is_state, stage_of}
 use Rattle.assembly.specs.Calls.{Call, begin, add, drop_last, close, Move, room_for, begun, added, dropped, ended, move, moved, called}
 use Rattle.assembly.specs.History.{BytesIn}
 use Rattle.assembly.specs.Code.{Assemblable}
-use Rattle.assembly.proofs.Laws.State.{said, state-parts, state-kept, stage-of, stage-none, stage-said}
+use Rattle.assembly.proofs.Laws.State.{state-parts, state-kept, stage-of, stage-none, stage-said}
 use Rattle.assembly.proofs.Laws.Session.{outcome, stage-few, move-kept}
 use Rattle.assembly.proofs.Laws.Reached.{before-kept}
 

@@ -4,7 +4,7 @@
 use Prim.Native.Nat.{ℕ, suc, ◌+◌, ◌-◌, ◌*◌, ◌≤◌, ◌<◌}
 use native.Mathlib.Omega.{arith}
 use native.Mathlib.Nat.{add-zero}
-use mathlib.Core.Path.{◌≡◌, refl, sym, ◌∙◌, ap, ap₂, subst}
+use mathlib.Core.Path.{◌≡◌, refl, sym, ◌∙◌, ap, ap₂}
 use mathlib.Core.Bool.{false}
 use mathlib.Core.List.{List, [], ◌∷◌, ◌++◌, map, append_assoc, map-append}
 use lib.ListN.{length, get_or, take, replicate, length-append, length-map, replicate-append-replicate}
@@ -13,7 +13,7 @@ use Rattle.buffer.specs.Bytes.{two_bytes}
 use Rattle.buffer.specs.Write.{write}
 use Rattle.buffer.proofs.Laws.Write.{write_skip, write-within, length-write}
 use Rattle.literal.specs.declared.Limits.{Limits}
-use Rattle.assembly.specs.State.{Stage, opened, closed, Shape, shapes, state_bytes, stage_byte, state_header, heads_byte, body_byte, row, encoded_stage}
+use Rattle.assembly.specs.State.{opened, closed, Shape, shapes, state_bytes, stage_byte, state_header, heads_byte, body_byte, row, encoded_stage}
 use Rattle.assembly.specs.Code.{with_shape}
 use Rattle.assembly.proofs.Laws.Row.{length-row}
 

@@ -1,7 +1,7 @@
 -- Sources can be assembled, and figures that code adds up are small.
 -- In order: the source form's limits; the counts of a record that was read; what a state says is held.
 -- Assumes nothing.
-use Prim.Native.Nat.{ℕ, ◌+◌, ◌*◌, ◌≤◌, ◌<◌}
+use Prim.Native.Nat.{ℕ, ◌+◌, ◌≤◌, ◌<◌}
 use native.Mathlib.Omega.{arith}
 use mathlib.Core.Path.{◌≡◌, refl, sym, ap, subst}
 use mathlib.Core.Bool.{Bool, true, false}
@@ -15,7 +15,7 @@ use Rattle.semantics.proofs.Laws.Tests.{along}
 use Rattle.record.specs.Header.{head_count, positive_count, naf_count}
 use Rattle.record.proofs.Laws.Only.{Added}
 use Rattle.assembly.specs.declared.Standing.{Standing}
-use Rattle.assembly.specs.State.{Stage, before, Shape, shape_of, shapes, held_length, keeps_stage, is_state, stage_of}
+use Rattle.assembly.specs.State.{Stage, before, shape_of, shapes, held_length, keeps_stage, is_state, stage_of}
 use Rattle.assembly.specs.Code.{Assemblable, standing_of}
 use Rattle.assembly.proofs.Laws.Row.{kept-shape}
 use Rattle.assembly.proofs.Laws.State.{said, state-parts, state-kept, stage-of, stage-none}

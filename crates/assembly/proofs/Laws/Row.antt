@@ -1,18 +1,16 @@
 -- The rows of a state: a row's bytes by place, and the shapes that two rows say.
 -- In order: bytes by place; a shape's two bytes and back; shapes and their bytes; zeros; a row of bytes and zeros, one byte more and one less.
 -- Assumes nothing.
-use Prim.Native.Nat.{ℕ, zero, suc, ◌+◌, ◌-◌, ◌*◌, ◌/◌, ◌%◌, ◌≤◌, ◌<◌}
+use Prim.Native.Nat.{ℕ, zero, suc, ◌+◌, ◌-◌, ◌/◌, ◌%◌, ◌≤◌, ◌<◌}
 use native.Mathlib.Omega.{arith}
-use native.Mathlib.Numerals.{towards_suc}
 use mathlib.Core.Path.{◌≡◌, refl, sym, ◌∙◌, ap, ap₂, subst}
 use mathlib.Core.Bool.{Bool, true, false, cond, not, ◌&&◌, ◌||◌, true≢false}
-use mathlib.Core.List.{List, [], ◌∷◌, ◌++◌, map, append_assoc}
+use mathlib.Core.List.{List, [], ◌∷◌, ◌++◌, map}
 use lib.Dec.{T, leb, eqb, eqb→eq, leb→le, le→leb}
-use lib.ListN.{length, get_or, take, drop, replicate, length-append, length-map, length-replicate}
+use lib.ListN.{length, get_or, take, drop, replicate, length-append, length-replicate}
 use lib.Seq.{drop-cons, take-add, drop-drop, get_or-drop}
 use borrow.Author.Tests.{le-leb, lt-leb, leb-true, leb-false}
 use Rattle.buffer.specs.Bytes.{Bytes}
-use Rattle.buffer.specs.Write.{write}
 use Rattle.literal.specs.declared.Limits.{Limits}
 use Rattle.semantics.specs.Set.{each_of}
 use Rattle.semantics.proofs.Laws.Tests.{both, first, second}

@@ -31,7 +31,7 @@ use Rattle.record.specs.Layout.{rule_record, encoded_rule, encoded_end}
 use Rattle.record.specs.Reading.{rule_only}
 use Rattle.record.proofs.Laws.Result.{refused-accepted, accepted-eq, and-then-accepted, accepted-and-then, refuse-if-accepted, refuse-if-false}
 use Rattle.record.proofs.Laws.Only.{Added, only-added, added-rule}
-use Rattle.assembly.specs.State.{Stage, before, opened, closed, Shape, shape_of, shapes, shape_length, held_length, keeps_shape, keeps_stage, state_bytes, encoded_stage, is_state, stage_of}
+use Rattle.assembly.specs.State.{Stage, before, opened, closed, Shape, shape_of, shapes, held_length, keeps_shape, keeps_stage, state_bytes, encoded_stage, is_state, stage_of}
 use Rattle.assembly.specs.Calls.{Call, begin, add, drop_last, close, Move, room_for, begun, added, dropped, ended, move, moved, called}
 use Rattle.assembly.specs.History.{BytesIn}
 use Rattle.assembly.specs.Code.{Assemblable}

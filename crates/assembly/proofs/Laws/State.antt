@@ -2,25 +2,24 @@
 -- In order: the parts of the header's tests, and of all; the bytes of a state are those of its stage; those of a stage are a state that says
 -- it; the two as one law; bytes of another length; one rule more, one less, and the end.
 -- Assumes nothing.
-use Prim.Native.Nat.{ℕ, zero, suc, ◌+◌, ◌-◌, ◌*◌, ◌/◌, ◌%◌, ◌≤◌, ◌<◌}
+use Prim.Native.Nat.{ℕ, zero, suc, ◌+◌, ◌-◌, ◌≤◌}
 use native.Mathlib.Omega.{arith}
 use mathlib.Core.Path.{◌≡◌, refl, sym, ◌∙◌, ap, ap₂, subst}
 use mathlib.Core.Logic.{◌↔◌}
-use mathlib.Core.Bool.{Bool, true, false, cond, ◌&&◌, true≢false}
+use mathlib.Core.Bool.{Bool, true, false, cond, ◌&&◌}
 use mathlib.Core.List.{List, [], ◌∷◌, ◌++◌, map, append_assoc, append-nil}
 use lib.Dec.{T, leb, eqb, eqb→eq, leb→le, le→leb}
-use lib.ListN.{length, get_or, take, drop, replicate, length-append, length-map, length-drop, length-replicate, take-append-drop}
-use lib.Seq.{take_all, drop-drop, drop_at, drop-append_seam, drop-append-add}
+use lib.ListN.{length, get_or, take, drop, replicate, length-append, length-map, length-drop, take-append-drop}
+use lib.Seq.{take_all, drop-drop, drop_at}
 use borrow.Author.Tests.{eqb-true, eqb-false, eq-eqb}
 use Rattle.buffer.specs.Bytes.{Bytes, two_bytes, number_at}
-use Rattle.buffer.specs.Write.{write}
 use Rattle.buffer.proofs.Laws.Bytes.{two_bytes-number, number-two_bytes}
 use Rattle.literal.specs.declared.Limits.{Limits}
 use Rattle.semantics.specs.Set.{each_of}
 use Rattle.semantics.proofs.Laws.Tests.{both, first, second, is_true, along}
 use Rattle.assembly.specs.State.{Stage, before, opened, closed, Shape, shapes, keeps_shape, keeps_stage, state_bytes, stage_byte, state_header, heads_byte, body_byte, row, encoded_stage, shapes_at, clear_at, count_at, count_right, is_headed, held_shapes, is_state, stage_with, stage_of}
 use Rattle.assembly.specs.Code.{Assemblable}
-use Rattle.assembly.proofs.Laws.Row.{cells, heads-cells, body-cells, length-shapes, shapes-said, zeros-clear, row-cells, length-row}
+use Rattle.assembly.proofs.Laws.Row.{heads-cells, body-cells, length-shapes, shapes-said, zeros-clear, row-cells, length-row}
 
 -- a test of two equal numbers passes
 equal : (a b : ℕ) → a ≡ b → T (eqb a b)
