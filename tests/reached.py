@@ -11,8 +11,10 @@ A function is reached if it is a root, or if a function that is reached calls it
   crate of crates/, as `record_read::read::read_source`. It has to be a public function; a path that is
   a type's or a module's is passed over.
 
-A call is a name or a path with a bracket behind it, in a function's body; comments, contracts and
-`ghost use` are no code. What is not understood is an error, exit status 2, and never passed over:
+A call is a name or a path with a bracket behind it, in a function's body; a function's name without
+one is a function handed on, which is called too, and a call of a parameter is of what was handed
+in. Comments, contracts and `ghost use` are no code. The functions of a trait's `impl` are called by
+the language (`for`, `?`, printing), so every function that names the type calls them. What is not understood is an error, exit status 2, and never passed over:
 an item of a shape that is not known here, a call of what is neither declared nor imported nor the
 kit's, a path of README.md that leads nowhere, a tree without functions or without exports.
 """
@@ -28,7 +30,11 @@ ROOT = Path(__file__).resolve().parent.parent
 KEYWORDS = frozenset("as break continue else for if in let loop match mut ref return while".split())
 PRIMITIVES = frozenset("bool u8 u16 u32 u64 u128 usize i8 i16 i32 i64 i128 isize".split())
 KIT = frozenset(["std"])
-KIT_METHODS = frozenset("len read stdin stdout write_all".split())
+KIT_METHODS = frozenset("""any copy_from_slice count_ones enumerate fill iter iter_mut len map max min read rev
+                           split_at split_at_checked stdin stdout to_be_bytes to_le_bytes unwrap_or
+                           write_all""".split())
+# What a derive of the language writes: no function of a file.
+DERIVED = frozenset(["default"])
 CONTRACTS = frozenset(["requires", "ensures"])
 CLOSING = {"{": "}", "(": ")", "[": "]"}
 
@@ -37,7 +43,7 @@ TOKEN = re.compile(r"""
   | (?P<literal>b?'(?:\\.|[^'\\])'|"(?:\\[\s\S]|[^"\\])*")
   | (?P<name>[^\W\d]\w*)
   | (?P<number>\d\w*)
-  | (?P<sign>::|\.\.|.)
+  | (?P<sign>::|->|\.\.|.)
 """, re.VERBOSE)
 
 # A crate and those that it stands on; the other lines of crates.txt are headings and comments.
@@ -60,6 +66,7 @@ class Token(NamedTuple):
 class Call(NamedTuple):
     path: tuple             # the names of the path
     is_method: bool         # behind a dot
+    is_handed_on: bool      # without a bracket: perhaps a function, perhaps a value
     line: int
 
     def is_of_function(self):
@@ -75,6 +82,9 @@ class Function(NamedTuple):
     place: str              # file and line
     is_public: bool
     is_export: bool
+    is_of_trait: bool       # in the `impl` of a trait
+    parameters: frozenset   # their names
+    names: frozenset        # what starts with a capital in the signature and the body
     calls: tuple
 
 
@@ -113,6 +123,7 @@ class File:
         self.modules = set()
         self.tokens = tokens_of(path.read_text(encoding="utf-8"))
         self.at = 0
+        self.is_in_trait = False
         self.read_items(None)
         if len(self.functions) != sum(token.text == "fn" for token in self.tokens):
             self.fail("not every `fn` was read")
@@ -187,8 +198,11 @@ class File:
         if word == "fn":
             self.read_function(owner, is_public, is_export)
         elif word == "const" and not is_export:
-            if any(call.is_of_function() for call in self.calls_in(self.take_until(";"))):
+            if any(call.is_of_function() and not call.is_handed_on
+                   for call in self.calls_in(self.take_until(";"))):
                 self.fail("a call outside a function")
+        elif word == "type" and self.is_in_trait:
+            self.take_until(";")
         elif owner or is_export:
             self.fail(f"a function expected, not `{word}`")
         elif word == "use":
@@ -198,17 +212,39 @@ class File:
             self.expect(";")
         elif word in ("struct", "enum"):
             self.types.add(self.take_name())
+            self.skip_parameters()
             is_tuple = self.next() == "("
             self.take_block()
             if is_tuple:
                 self.expect(";")
         elif word == "impl":
-            name = self.take_name()
+            self.skip_parameters()
+            name = self.take_type()
+            self.is_in_trait = self.take_if("for")
+            if self.is_in_trait:
+                name = self.take_type()
             self.expect("{")
             self.read_items(name)
+            self.is_in_trait = False
             self.expect("}")
         else:
             self.fail(f"an item that starts with `{word}`")
+
+    def skip_parameters(self):
+        """Past what stands in `<` and `>`."""
+        if self.take_if("<"):
+            depth = 1
+            while depth:
+                text = self.take()
+                depth += (text == "<") - (text == ">")
+
+    def take_type(self):
+        """The last name of a type's or a trait's path, past its parameters."""
+        name = self.take_name()
+        while self.take_if("::"):
+            name = self.take_name()
+        self.skip_parameters()
+        return name
 
     def read_visibility(self):
         """Whether other crates see the item: `pub`, and not `pub(crate)`."""
@@ -236,21 +272,31 @@ class File:
     def read_function(self, owner, is_public, is_export):
         place = f"{self.name}:{self.tokens[self.at].line}"
         name = self.take_name()
-        if self.next() == "<":
-            self.take_until(">")
-        self.take_block()
+        self.skip_parameters()
+        taken = self.take_block()
+        parameters = frozenset(token.text for token, behind in zip(taken, taken[1:])
+                               if token.kind == "name" and behind.text == ":")
+        signature = list(taken)
         while self.next() != "{":
             if self.next() == "[":
                 self.take_block()
-            elif self.take() in CONTRACTS:
+            elif self.next() in CONTRACTS:
+                self.take()
                 if self.next() != "{":
                     self.take_name()
                 self.take_block()
-        calls = tuple(self.calls_in(self.take_block()))
+            else:
+                signature.append(self.tokens[self.at])
+                self.take()
+        body = self.take_block()
+        names = frozenset(token.text for token in [*signature, *body]
+                          if token.kind == "name" and token.text[0].isupper())
+        calls = tuple(self.calls_in(body))
         # The type of an `impl` is this file's, or one that it imports.
         scope = self.imports.get(owner, f"{self.module}::{owner}") if owner else self.module
         self.functions.append(Function(f"{scope}::{name}", scope, self.module, self.crate, place,
-                                       is_public, is_export, calls))
+                                       is_public, is_export, self.is_in_trait, parameters, names,
+                                       calls))
 
     def calls_in(self, tokens):
         """The names and paths with a bracket behind them."""
@@ -266,8 +312,9 @@ class File:
                     self.fail(f"in the item before: a name expected behind `{path[-1]}::`")
                 path.append(tokens[at + 1].text)
                 at += 2
-            if at < len(tokens) and tokens[at].text == "(":
-                yield Call(tuple(path), before == ".", first.line)
+            is_call = at < len(tokens) and tokens[at].text == "("
+            if is_call or before != ".":
+                yield Call(tuple(path), before == ".", not is_call, first.line)
 
 
 # ---------------------------------------------------------------------------------------------
@@ -316,13 +363,22 @@ class Tree:
                         for file in self.files for function in file.functions}
 
     def called_by(self, file, function):
-        found = set()
+        found = self.by_the_language(file, function)
         for call in filter(Call.is_of_function, function.calls):
+            if len(call.path) == 1 and call.path[0] in function.parameters:
+                continue
             if call.is_method:
                 found |= self.methods(file, call)
             else:
                 found |= self.called(file, function, call)
         return found
+
+    def by_the_language(self, file, function):
+        """The functions of traits, of the types that the function names."""
+        types = {file.imports.get(name, f"{file.module}::{name}") for name in function.names}
+        types.add(function.scope)
+        return {path for path, other in self.functions.items()
+                if other.is_of_trait and other.scope in types}
 
     def methods(self, file, call):
         """Every method of the name: the type of the value is not known here."""
@@ -347,7 +403,9 @@ class Tree:
         path = "::".join([first, *rest])
         if path in self.functions:
             return {path}
-        if path.split("::")[0] in self.kit | PRIMITIVES:
+        if call.is_handed_on:
+            return set()
+        if path.split("::")[0] in self.kit | PRIMITIVES or path.split("::")[-1] in DERIVED:
             return set()
         raise NotUnderstood(f"{file.name}:{call.line}: `{'::'.join(call.path)}` is called, and is "
                             "nothing known")

@@ -1,5 +1,6 @@
 -- The claims, each from laws. Assumes nothing.
 use Prim.Native.Nat.{ℕ, ◌+◌, ◌*◌, ◌^◌, ◌≤◌, ◌<◌}
+use Rattle.std.specs.Prelude.{Ok}
 use native.Mathlib.Omega.{arith}
 use native.Mathlib.Nat.{zero-add}
 use mathlib.Core.Path.{◌≡◌, refl, sym, ◌∙◌, ap}
@@ -42,9 +43,8 @@ use Rattle.semantics.proofs.Laws.Room.{Room, translation-keeps, translation-shor
 use Rattle.semantics.proofs.FormMatch.{form-match}
 use Rattle.semantics.proofs.Laws.Verdict.{finding-clash, finding-broken, finding-smaller, finding-answer-set}
 use Rattle.record.specs.declared.Reason.TheVariants.{OutputShort}
-use Rattle.record.specs.declared.Written.TheVariants.{Length}
 use Rattle.record.specs.Refusal.{refusal}
-use Rattle.record.specs.Result.{Result, accepted, and_then, refuse_if, Outcome, delivered}
+use Rattle.record.specs.Result.{Answer, and_then, refuse_if, Outcome, delivered}
 use Rattle.record.specs.Layout.{encoded_program}
 use Rattle.record.specs.Reading.{items, parsed}
 use Rattle.record.proofs.Laws.Layout.{length-encoded-program}
@@ -73,10 +73,9 @@ use Rattle.restrict.specs.Restrict.{restriction_list, restriction_bytes, restric
 use Rattle.restrict.proofs.Laws.Restriction.{restriction-joined, restriction-set}
 use Rattle.check_set.specs.declared.Verdict.{Verdict}
 use Rattle.check_set.specs.declared.Verdict.TheVariants.{Yes}
-use Rattle.check_set.specs.declared.Check.TheVariants.{Found}
 use Rattle.check_set.specs.Verdict.{verdict_of, witness}
 use Rattle.check_set.specs.Check.{found, Checked, checked_of, checked}
-use Rattle.aspda_word.specs.Words.{ToldWritten}
+use Rattle.aspda_word.specs.Words.{ToldCount}
 use Rattle.aspda.specs.Example.{example_options, example_sheets, example_defeats}
 use Rattle.aspda.specs.Claims.{Means, Reading, Signing, Expanding, Quotients, Quotient, Extending, Checks, Checking, Shows, Showing, Translates, Translating, Exporting, Assembling, Tells, Words}
 use Rattle.aspda.proofs.Laws.Lengths.{program-wide, quotient-no-longer, quotient-unsheeted, extension-at-most, restriction-no-longer}
@@ -128,15 +127,15 @@ expanding = record { written = λ is. refl; few = length-appended; example = ref
 
 -- of a program and a set that are read, what is made of both is delivered
 made-fits : (F : Limits) (make : Program → List Literal → List ℕ) (b k : List ℕ) (p : Program) (ls : List Literal)
-    → parsed F b ≡ accepted p → parsed_set F F.literals k ≡ accepted ls
+    → parsed F b ≡ Ok p → parsed_set F F.literals k ≡ Ok ls
     → (out : List ℕ) → length (make p ls) ≤ length out
-    → delivered (and_then (parsed F b) (λ p. and_then (parsed_set F F.literals k) (λ ls. accepted (make p ls)))) out
-    ≡ record { answer = Length (length (make p ls)); buffer = write out 0 (make p ls) }
+    → delivered (and_then (parsed F b) (λ p. and_then (parsed_set F F.literals k) (λ ls. Ok (make p ls)))) out
+    ≡ record { answer = Ok (length (make p ls)); buffer = write out 0 (make p ls) }
 made-fits F make b k p ls e q out fits =
-    ap (λ (r : Result Program). delivered (and_then r (λ p. and_then (parsed_set F F.literals k) (λ ls. accepted (make p ls)))) out) e
-    ∙ ap (λ (r : Result (List ℕ)). delivered r out) (accepted-and-then p (λ p. and_then (parsed_set F F.literals k) (λ ls. accepted (make p ls))))
-    ∙ ap (λ (r : Result (List Literal)). delivered (and_then r (λ ls. accepted (make p ls))) out) q
-    ∙ ap (λ (r : Result (List ℕ)). delivered r out) (accepted-and-then ls (λ ls. accepted (make p ls)))
+    ap (λ (r : Answer Program). delivered (and_then r (λ p. and_then (parsed_set F F.literals k) (λ ls. Ok (make p ls)))) out) e
+    ∙ ap (λ (r : Answer (List ℕ)). delivered r out) (accepted-and-then p (λ p. and_then (parsed_set F F.literals k) (λ ls. Ok (make p ls))))
+    ∙ ap (λ (r : Answer (List Literal)). delivered (and_then r (λ ls. Ok (make p ls))) out) q
+    ∙ ap (λ (r : Answer (List ℕ)). delivered r out) (accepted-and-then ls (λ ls. Ok (make p ls)))
     ∙ delivered-fits (make p ls) out fits
 
 -- quotients, in a form whose figures are within the plain form's
@@ -163,7 +162,7 @@ unfolding source most_kind
 source-kinds = omega arith
 
 -- a source set that is read holds literals of source kinds, in ascending order
-module _ (k : List ℕ) (ls : List Literal) (bytes : Bytes k) (read : parsed_set source source.literals k ≡ accepted ls) where
+module _ (k : List ℕ) (ls : List Literal) (bytes : Bytes k) (read : parsed_set source source.literals k ≡ Ok ls) where
   set-kept : T (keeps_set source source.literals ls)
   set-kept = (parsed-set-sound source source.literals k ls bytes read).1
 
@@ -195,10 +194,10 @@ source-fields : TwoBytes source
 unfolding source most_kind
 source-fields = record { atoms = omega arith; tags = omega arith; numbers = λ kinds. omega arith }
 
-read_fits : (b : List ℕ) (p : Program) → Bytes b → parsed source b ≡ accepted p → Each (Speaks Fits) p
+read_fits : (b : List ℕ) (p : Program) → Bytes b → parsed source b ≡ Ok p → Each (Speaks Fits) p
 read_fits b p bytes read = rules-fit source source-fields p (expanded-each source p (parsed-expanded source b p bytes read) source-takes)
 
-read_count : (b : List ℕ) (p : Program) → Bytes b → parsed source b ≡ accepted p → length p < 65536
+read_count : (b : List ℕ) (p : Program) → Bytes b → parsed source b ≡ Ok p → length p < 65536
 unfolding source
 read_count b p bytes read = omega (arith, expanded-few source p (parsed-expanded source b p bytes read))
 
@@ -218,8 +217,8 @@ extending =
       returns = λ k p ls bytes read.
           let w = extension-marks p ls in ap restriction_list w.1 ∙ restriction-joined ls w.0 (set-source k ls bytes read) w.2;
       writes_restriction = λ k ls held out fits.
-          ap (λ (r : Result (List Literal)). delivered (and_then r (λ ls. accepted (encoded_set (restriction_list ls)))) out) held
-          ∙ ap (λ (r : Result (List ℕ)). delivered r out) (accepted-and-then ls (λ ls. accepted (encoded_set (restriction_list ls))))
+          ap (λ (r : Answer (List Literal)). delivered (and_then r (λ ls. Ok (encoded_set (restriction_list ls)))) out) held
+          ∙ ap (λ (r : Answer (List ℕ)). delivered r out) (accepted-and-then ls (λ ls. Ok (encoded_set (restriction_list ls))))
           ∙ delivered-fits (encoded_set (restriction_list ls)) out fits;
       restricts = restriction-set;
       at_most = λ b k p ls bytes chars read held. extension-at-most source b p bytes read extendable-source k ls chars held;
@@ -234,26 +233,26 @@ verdict-yes (broken n) e = let z : ◌≡◌ {A = ℕ} 0 1 = cc in absurd (omega
 verdict-yes (smaller s) e = let z : ◌≡◌ {A = ℕ} 0 1 = cc in absurd (omega arith)
 verdict-yes answer_set e = refl
 
-yes-verdict : (f : Finding) → f ≡ answer_set → Found (verdict_of f) ≡ Found Yes
+yes-verdict : (f : Finding) → f ≡ answer_set → ◌≡◌ {A = Answer Verdict} (Ok (verdict_of f)) (Ok Yes)
 unfolding verdict_of
-yes-verdict f e = ap (λ (g : Finding). Found (verdict_of g)) e
+yes-verdict f e = ap (λ (g : Finding). Ok (verdict_of g)) e
 
-found-verdict : {v w : Verdict} → Found v ≡ Found w → v ≡ w
+found-verdict : {v w : Verdict} → ◌≡◌ {A = Answer Verdict} (Ok v) (Ok w) → v ≡ w
 found-verdict e = cc
 
-module _ (F : Limits) (b k : List ℕ) (p : Program) (ls : List Literal) (read : parsed F b ≡ accepted p) (held : parsed_set F F.checked k ≡ accepted ls)
+module _ (F : Limits) (b k : List ℕ) (p : Program) (ls : List Literal) (read : parsed F b ≡ Ok p) (held : parsed_set F F.checked k ≡ Ok ls)
     (out : List ℕ) (fits : length k ≤ length out)
   where
-    check-finds : checked F b k out ≡ record { answer = Found (verdict_of (finding p ls)); buffer = write out 0 (witness (finding p ls)) }
+    check-finds : checked F b k out ≡ record { answer = Ok (verdict_of (finding p ls)); buffer = write out 0 (witness (finding p ls)) }
     unfolding checked found with_inputs and_then refuse_if checked_of
     check-finds =
         let short = ltb (length out) (length k) in
-        let judged : Program → List Literal → Result Finding = λ p ls. refuse_if short (refusal OutputShort 0) (accepted (finding p ls)) in
-        ap (λ (r : Result Program). checked_of (and_then r (λ p. and_then (parsed_set F F.checked k) (judged p))) out) read
-        ∙ ap (λ (r : Result (List Literal)). checked_of (and_then r (judged p)) out) held
-        ∙ ap (λ (x : Bool). checked_of (refuse_if x (refusal OutputShort 0) (accepted (finding p ls))) out) (le-ltb (length out) (length k) fits)
+        let judged : Program → List Literal → Answer Finding = λ p ls. refuse_if short (refusal OutputShort 0) (Ok (finding p ls)) in
+        ap (λ (r : Answer Program). checked_of (and_then r (λ p. and_then (parsed_set F F.checked k) (judged p))) out) read
+        ∙ ap (λ (r : Answer (List Literal)). checked_of (and_then r (judged p)) out) held
+        ∙ ap (λ (x : Bool). checked_of (refuse_if x (refusal OutputShort 0) (Ok (finding p ls))) out) (le-ltb (length out) (length k) fits)
 
-    check-yes : ((checked F b k out).answer ≡ Found Yes) ↔ AnswerSet p (set_of ls)
+    check-yes : ((checked F b k out).answer ≡ Ok Yes) ↔ AnswerSet p (set_of ls)
     check-yes = (
       λ e. (finding-answer-set p ls).0 (verdict-yes (finding p ls) (found-verdict (sym (ap (λ (o : Checked). o.answer) check-finds) ∙ e))),
       λ w. ap (λ (o : Checked). o.answer) check-finds ∙ yes-verdict (finding p ls) ((finding-answer-set p ls).1 w),
@@ -293,7 +292,7 @@ plain-room =
     }
 
 -- the sum is at most thirteen times the bytes that are written, and the appended rules as they are
-translation-bound : (b : List ℕ) (is : List Item) → Bytes b → items source b ≡ accepted is
+translation-bound : (b : List ℕ) (is : List Item) → Bytes b → items source b ≡ Ok is
     → translation_length (expanded is) ≤ 13 * length b + 17 * length (appended_by is)
 unfolding source most_kind
 translation-bound b is bytes read =
@@ -307,14 +306,14 @@ translation-bound b is bytes read =
       expanded-within source b is bytes read,
     )
 
-module _ (b : List ℕ) (p : Program) (bytes : Bytes b) (read : parsed source b ≡ accepted p) where
+module _ (b : List ℕ) (p : Program) (bytes : Bytes b) (read : parsed source b ≡ Ok p) where
   kept : Expanded source p
   kept = parsed-expanded source b p bytes read
 
   result-length : length (encoded_program (translation p)) ≡ translation_length p
   result-length = length-encoded-program (translation p) ∙ length-translation p
 
-  read_back : parsed plain (encoded_program (translation p)) ≡ accepted (translation p)
+  read_back : parsed plain (encoded_program (translation p)) ≡ Ok (translation p)
   read_back =
       let rules = translation-keeps source plain plain-room p kept in
       parsed-complete plain (translation p)
@@ -325,13 +324,13 @@ module _ (b : List ℕ) (p : Program) (bytes : Bytes b) (read : parsed source b 
   match = form-match source plain source-kinds source-takes plain-covers p kept
 
   module _ (out : List ℕ) (fits : translation_length p ≤ length out) where
-    written : translated source b out ≡ record { answer = Length (translation_length p); buffer = write out 0 (encoded_program (translation p)) }
+    written : translated source b out ≡ record { answer = Ok (translation_length p); buffer = write out 0 (encoded_program (translation p)) }
     unfolding translated translated_bytes
     written =
-        ap (λ (r : Result Program). delivered (and_then r (λ q. accepted (encoded_program (translation q)))) out) read
-        ∙ ap (λ (r : Result (List ℕ)). delivered r out) (accepted-and-then p (λ q. accepted (encoded_program (translation q))))
+        ap (λ (r : Answer Program). delivered (and_then r (λ q. Ok (encoded_program (translation q)))) out) read
+        ∙ ap (λ (r : Answer (List ℕ)). delivered r out) (accepted-and-then p (λ q. Ok (encoded_program (translation q))))
         ∙ delivered-fits (encoded_program (translation p)) out (omega (arith, result-length))
-        ∙ ap (λ (n : ℕ). record { answer = Length n; buffer = write out 0 (encoded_program (translation p)) }) result-length
+        ∙ ap (λ (n : ℕ). record { answer = Ok n; buffer = write out 0 (encoded_program (translation p)) }) result-length
 
     -- the first bytes are the result, and those behind it are the buffer's
     front : take (translation_length p) (write out 0 (encoded_program (translation p))) ≡ encoded_program (translation p)
@@ -382,11 +381,11 @@ plain-small : plain.length < 2 ^ 63
 unfolding plain
 plain-small = omega arith
 
-translated-told : (b out : List ℕ) → Bytes b → ToldWritten (translated source b out).answer
+translated-told : (b out : List ℕ) → Bytes b → ToldCount (translated source b out).answer
 unfolding translated translated_bytes source
 translated-told b out bytes =
     told-delivered plain.length plain-small (translated_bytes source b) out
-    (bounded-then plain.length (parsed source b) (λ q. accepted (encoded_program (translation q))) (λ p e.
+    (bounded-then plain.length (parsed source b) (λ q. Ok (encoded_program (translation q))) (λ p e.
     bounded plain.length (encoded_program (translation p))
     (omega (arith, result-length b p bytes e, translation-short source plain plain-room p (parsed-expanded source b p bytes e)))))
 

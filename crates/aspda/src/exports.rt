@@ -11,9 +11,9 @@ ghost use Rattle.extend.specs.Extend.{extended};
 ghost use Rattle.restrict.specs.Restrict.{restricted};
 ghost use Rattle.check_set.specs.Check.{checked};
 ghost use Rattle.assembly.specs.Calls.{begin, add, drop_last, close, called, assembled};
-ghost use Rattle.aspda_word.specs.Words.{reading_word, shown_word, KeepsWord, CallsWord, MeetsWord, MeetsVerdict};
+ghost use Rattle.aspda_word.specs.Words.{count_word, shown_word, KeepsWord, CallsWord, MeetsWord, MeetsVerdict};
 
-use aspda_word::word::{check_word, reading_word, shown_word, written_word};
+use aspda_word::word::{check_word, count_word, shown_word};
 use aspif::aspif::export_plain;
 use assembly_call::call::{add_record, begin_state, close_state, drop_last, measure_state};
 use check_set::proposed::{check_plain, check_source};
@@ -27,17 +27,17 @@ use translate::translate::translate_source;
 // The number of rules of a source, or the refusal.
 #[unsafe(no_mangle)]
 pub extern "C" fn aspda_read_source(s: &[u8]) -> u64
-    ensures { result ≡ reading_word (reading source s.now) }
+    ensures { result ≡ count_word (reading source s.now) }
 {
-    reading_word(read_source(s))
+    count_word(read_source(s))
 }
 
 // The number of rules of a plain program, or the refusal.
 #[unsafe(no_mangle)]
 pub extern "C" fn aspda_read_plain(s: &[u8]) -> u64
-    ensures { result ≡ reading_word (reading plain s.now) }
+    ensures { result ≡ count_word (reading plain s.now) }
 {
-    reading_word(read_plain(s))
+    count_word(read_plain(s))
 }
 
 // The translation of a source, written to the start of `out`: its length, or the refusal.
@@ -45,7 +45,7 @@ pub extern "C" fn aspda_read_plain(s: &[u8]) -> u64
 pub extern "C" fn aspda_translate(s: &[u8], out: &mut [u8]) -> u64
     ensures { MeetsWord (translated source s.now out.old) result out.new }
 {
-    written_word(translate_source(s, out))
+    count_word(translate_source(s, out))
 }
 
 // The quotient of a source by a source set, written to the start of `out`: its length, or the refusal.
@@ -53,7 +53,7 @@ pub extern "C" fn aspda_translate(s: &[u8], out: &mut [u8]) -> u64
 pub extern "C" fn aspda_quotient_source(s: &[u8], k: &[u8], out: &mut [u8]) -> u64
     ensures { MeetsWord (quotiented source s.now k.now out.old) result out.new }
 {
-    written_word(quotient_source(s, k, out))
+    count_word(quotient_source(s, k, out))
 }
 
 // The quotient of a plain program by a plain set, written to the start of `out`: its length, or the refusal.
@@ -61,7 +61,7 @@ pub extern "C" fn aspda_quotient_source(s: &[u8], k: &[u8], out: &mut [u8]) -> u
 pub extern "C" fn aspda_quotient_plain(s: &[u8], k: &[u8], out: &mut [u8]) -> u64
     ensures { MeetsWord (quotiented plain s.now k.now out.old) result out.new }
 {
-    written_word(quotient_plain(s, k, out))
+    count_word(quotient_plain(s, k, out))
 }
 
 // The aspif text of a plain program, written to the start of `out`: its length, or the refusal.
@@ -69,7 +69,7 @@ pub extern "C" fn aspda_quotient_plain(s: &[u8], k: &[u8], out: &mut [u8]) -> u6
 pub extern "C" fn aspda_aspif(s: &[u8], out: &mut [u8]) -> u64
     ensures { MeetsWord (exported plain s.now out.old) result out.new }
 {
-    written_word(export_plain(s, out))
+    count_word(export_plain(s, out))
 }
 
 // The extension of a source set by a source, written to the start of `out`: its length, or the refusal.
@@ -77,7 +77,7 @@ pub extern "C" fn aspda_aspif(s: &[u8], out: &mut [u8]) -> u64
 pub extern "C" fn aspda_extend(s: &[u8], k: &[u8], out: &mut [u8]) -> u64
     ensures { MeetsWord (extended source s.now k.now out.old) result out.new }
 {
-    written_word(extend_source(s, k, out))
+    count_word(extend_source(s, k, out))
 }
 
 // The restriction of a plain set, written to the start of `out`: its length, or the refusal.
@@ -85,7 +85,7 @@ pub extern "C" fn aspda_extend(s: &[u8], k: &[u8], out: &mut [u8]) -> u64
 pub extern "C" fn aspda_restrict(k: &[u8], out: &mut [u8]) -> u64
     ensures { MeetsWord (restricted plain k.now out.old) result out.new }
 {
-    written_word(restrict_plain(k, out))
+    count_word(restrict_plain(k, out))
 }
 
 // Whether a set is an answer set of a source: the verdict, or the refusal. A smaller model is written to the start of `out`.
@@ -125,7 +125,7 @@ pub extern "C" fn aspda_show_plain(s: &[u8], number: u32) -> u64
 pub extern "C" fn aspda_begin(state: &mut [u8], out: &[u8]) -> u64
     ensures { KeepsWord (called source begin state.old out.now) result state.new }
 {
-    reading_word(begin_state(state, out))
+    count_word(begin_state(state, out))
 }
 
 // Adds a rule's record behind those that are held, which is written there in `out`: the number of rules then held, or the refusal.
@@ -133,7 +133,7 @@ pub extern "C" fn aspda_begin(state: &mut [u8], out: &[u8]) -> u64
 pub extern "C" fn aspda_add(state: &mut [u8], rule: &[u8], out: &mut [u8]) -> u64
     ensures { CallsWord (called source (add rule.now) state.old out.old) result state.new out.new }
 {
-    reading_word(add_record(state, rule, out))
+    count_word(add_record(state, rule, out))
 }
 
 // Drops the last rule: the number of rules then held, or the refusal.
@@ -141,7 +141,7 @@ pub extern "C" fn aspda_add(state: &mut [u8], rule: &[u8], out: &mut [u8]) -> u6
 pub extern "C" fn aspda_drop(state: &mut [u8]) -> u64
     ensures { KeepsWord (called source drop_last state.old []) result state.new }
 {
-    reading_word(drop_last(state))
+    count_word(drop_last(state))
 }
 
 // Closes an assembly: the end record is written behind the rules in `out`. The number of rules held, or the refusal.
@@ -149,7 +149,7 @@ pub extern "C" fn aspda_drop(state: &mut [u8]) -> u64
 pub extern "C" fn aspda_close(state: &mut [u8], out: &mut [u8]) -> u64
     ensures { CallsWord (called source close state.old out.old) result state.new out.new }
 {
-    reading_word(close_state(state, out))
+    count_word(close_state(state, out))
 }
 
 // The bytes of the rules held and an end record.

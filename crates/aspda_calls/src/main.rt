@@ -7,68 +7,56 @@
 mod ask;
 mod tell;
 
-use crate::ask::{
-    ask_add, ask_begin, ask_close, ask_drop, ask_program, ask_rule, ask_set, ask_state, ask_text,
-    ask_translate,
-};
-use crate::tell::{front, tell_written};
+use crate::tell::{Teller, front};
 use assembly_value::Assembly;
 use extend::extend::extend_source;
-use record::Written;
 use std::io;
 use translate::translate::translate_source;
 
 // Room for every result here: M3's translation has 433 bytes, and so has its text.
 const ROOM: usize = 512;
 
-// The number of bytes written.
-fn length_of(a: Written) -> usize {
-    match a {
-        Written::Length(n) => n,
-        Written::Refused(_) => 0,
-    }
-}
-
 // A plain program's text.
-fn text(rt: &impl Print, example: &[u8], s: &[u8]) -> io::Result<()> {
+fn text(rt: &impl Print, example: &str, s: &[u8]) -> io::Result<()> {
     let mut out = [0u8; ROOM];
-    ask_text(rt, example, s, &mut out)
+    Teller::new(rt, example).ask_text(s, &mut out)
 }
 
 // A plain program, and its text.
-fn plain(rt: &impl Print, example: &[u8], s: &[u8]) -> io::Result<()> {
-    ask_program(rt, example, s)?;
+fn plain(rt: &impl Print, example: &str, s: &[u8]) -> io::Result<()> {
+    Teller::new(rt, example).ask_program(s)?;
     text(rt, example, s)
 }
 
 // A source, and its translation.
-fn source(rt: &impl Print, example: &[u8], translated: &[u8], s: &[u8]) -> io::Result<()> {
+fn source(rt: &impl Print, example: &str, translated: &str, s: &[u8]) -> io::Result<()> {
     let mut out = [0u8; ROOM];
-    ask_program(rt, example, s)?;
+    let teller = Teller::new(rt, example);
+    teller.ask_program(s)?;
     let a = translate_source(s, &mut out);
-    tell_written(rt, example, b"translate_source", a, &out)?;
-    plain(rt, translated, front(&out, length_of(a)))
+    teller.written("translate_source", a, &out)?;
+    plain(rt, translated, front(&out, a.unwrap_or(0)))
 }
 
 // A set beside a program.
-fn set(rt: &impl Print, example: &[u8], s: &[u8], k: &[u8]) -> io::Result<()> {
+fn set(rt: &impl Print, example: &str, s: &[u8], k: &[u8]) -> io::Result<()> {
     let mut out = [0u8; ROOM];
-    ask_set(rt, example, s, k, &mut out)
+    Teller::new(rt, example).ask_set(s, k, &mut out)
 }
 
 // A set beside a source, and its extension beside the translation.
 fn source_set(
     rt: &impl Print,
-    example: &[u8],
-    translated: &[u8],
+    example: &str,
+    translated: &str,
     s: &[u8],
     k: &[u8],
 ) -> io::Result<()> {
     let mut plain = [0u8; ROOM];
     let mut extension = [0u8; ROOM];
     set(rt, example, s, k)?;
-    let n = length_of(translate_source(s, &mut plain));
-    let m = length_of(extend_source(s, k, &mut extension));
+    let n = translate_source(s, &mut plain).unwrap_or(0);
+    let m = extend_source(s, k, &mut extension).unwrap_or(0);
     set(rt, translated, front(&plain, n), front(&extension, m))
 }
 
@@ -77,16 +65,16 @@ fn m1(rt: &impl Print) -> io::Result<()> {
     let s = b"D:\x00\x07\x01\x00\x00\x00\x00\x00\x00\x01E:\x00\x01";
     let mut exact = [0u8; 94];
     let mut short = [0u8; 93];
-    source(rt, b"M1", b"M1 translated", s)?;
-    ask_rule(rt, b"M1", s, 0)?;
-    ask_rule(rt, b"M1", s, 2)?;
-    ask_translate(rt, b"M1 into 94 bytes", s, &mut exact)?;
-    ask_translate(rt, b"M1 into 93 bytes", s, &mut short)?;
-    text(rt, b"M1", s)?;
+    source(rt, "M1", "M1 translated", s)?;
+    Teller::new(rt, "M1").ask_rule(s, 0)?;
+    Teller::new(rt, "M1").ask_rule(s, 2)?;
+    Teller::new(rt, "M1 into 94 bytes").ask_translate(s, &mut exact)?;
+    Teller::new(rt, "M1 into 93 bytes").ask_translate(s, &mut short)?;
+    text(rt, "M1", s)?;
     source_set(
         rt,
-        b"M1 {1}",
-        b"M1 {1} translated",
+        "M1 {1}",
+        "M1 {1} translated",
         s,
         b"A:\x00\x01\x00\x00\x00\x00\x01",
     )
@@ -95,10 +83,10 @@ fn m1(rt: &impl Print) -> io::Result<()> {
 // No bytes.
 fn m2(rt: &impl Print) -> io::Result<()> {
     let mut out = [0u8; ROOM];
-    ask_program(rt, b"M2", b"")?;
-    ask_translate(rt, b"M2", b"", &mut out)?;
-    ask_text(rt, b"M2", b"", &mut out)?;
-    set(rt, b"M2 {}", b"", b"A:\x00\x00")
+    Teller::new(rt, "M2").ask_program(b"")?;
+    Teller::new(rt, "M2").ask_translate(b"", &mut out)?;
+    Teller::new(rt, "M2").ask_text(b"", &mut out)?;
+    set(rt, "M2 {}", b"", b"A:\x00\x00")
 }
 
 // 000's Example 1, and its four answer sets.
@@ -112,23 +100,23 @@ fn m3(rt: &impl Print) -> io::Result<()> {
     let second = b"A:\x00\x03\x00\x00\x00\x00\x02\x00\x00\x00\x00\x04\x02\x00\x02\x00\x05";
     let third = b"A:\x00\x02\x00\x00\x00\x00\x03\x00\x00\x00\x00\x04";
     let fourth = b"A:\x00\x02\x00\x00\x00\x00\x03\x00\x00\x00\x00\x05";
-    source(rt, b"M3", b"M3 translated", s)?;
-    ask_rule(rt, b"M3", s, 5)?;
-    source_set(rt, b"M3 first", b"M3 first translated", s, first)?;
-    source_set(rt, b"M3 second", b"M3 second translated", s, second)?;
-    source_set(rt, b"M3 third", b"M3 third translated", s, third)?;
-    source_set(rt, b"M3 fourth", b"M3 fourth translated", s, fourth)
+    source(rt, "M3", "M3 translated", s)?;
+    Teller::new(rt, "M3").ask_rule(s, 5)?;
+    source_set(rt, "M3 first", "M3 first translated", s, first)?;
+    source_set(rt, "M3 second", "M3 second translated", s, second)?;
+    source_set(rt, "M3 third", "M3 third translated", s, third)?;
+    source_set(rt, "M3 fourth", "M3 fourth translated", s, fourth)
 }
 
 // 1; tag 7: 1 if 2.
 fn m4(rt: &impl Print) -> io::Result<()> {
     let s = b"S:\x00\x00\x01\x00\x00\x00\x00\x00\x00\x01\
         D:\x00\x07\x01\x01\x00\x00\x00\x00\x00\x01\x00\x00\x00\x00\x02E:\x00\x02";
-    source(rt, b"M4", b"M4 translated", s)?;
+    source(rt, "M4", "M4 translated", s)?;
     source_set(
         rt,
-        b"M4 {1}",
-        b"M4 {1} translated",
+        "M4 {1}",
+        "M4 {1} translated",
         s,
         b"A:\x00\x01\x00\x00\x00\x00\x01",
     )
@@ -140,8 +128,8 @@ fn m5(rt: &impl Print) -> io::Result<()> {
         D:\x00\x07\x01\x00\x00\x00\x00\x00\x00\x02\
         S:\x00\x00\x01\x00\x00\x02\x00\x07\x00\x01E:\x00\x03";
     let k = b"A:\x00\x02\x00\x00\x00\x00\x02\x02\x00\x07\x00\x01";
-    source(rt, b"M5", b"M5 translated", s)?;
-    source_set(rt, b"M5 set", b"M5 set translated", s, k)
+    source(rt, "M5", "M5 translated", s)?;
+    source_set(rt, "M5 set", "M5 set translated", s, k)
 }
 
 // 1 or 2. A set that does not ascend is refused, and one without its mark; so is a buffer of three bytes.
@@ -149,39 +137,39 @@ fn m6(rt: &impl Print) -> io::Result<()> {
     let s = b"S:\x00\x00\x02\x00\x00\x00\x00\x00\x00\x01\x00\x00\x00\x00\x02E:\x00\x01";
     let k = b"A:\x00\x02\x00\x00\x00\x00\x01\x00\x00\x00\x00\x02";
     let mut short = [0u8; 3];
-    ask_program(rt, b"M6", s)?;
-    ask_rule(rt, b"M6", s, 2)?;
-    text(rt, b"M6", s)?;
-    set(rt, b"M6 {1, 2}", s, k)?;
+    Teller::new(rt, "M6").ask_program(s)?;
+    Teller::new(rt, "M6").ask_rule(s, 2)?;
+    text(rt, "M6", s)?;
+    set(rt, "M6 {1, 2}", s, k)?;
     set(
         rt,
-        b"M6 {2, 1}",
+        "M6 {2, 1}",
         s,
         b"A:\x00\x02\x00\x00\x00\x00\x02\x00\x00\x00\x00\x01",
     )?;
-    set(rt, b"M6 no set", s, b"S:\x00\x00")?;
-    ask_set(rt, b"M6 {1, 2} into 3 bytes", s, k, &mut short)
+    set(rt, "M6 no set", s, b"S:\x00\x00")?;
+    Teller::new(rt, "M6 {1, 2} into 3 bytes").ask_set(s, k, &mut short)
 }
 
 // No rules, and an atom with its negation.
 fn m7(rt: &impl Print) -> io::Result<()> {
     let k = b"A:\x00\x02\x00\x00\x00\x00\x01\x01\x00\x00\x00\x01";
-    set(rt, b"M7 {1, negated 1}", b"E:\x00\x00", k)
+    set(rt, "M7 {1, negated 1}", b"E:\x00\x00", k)
 }
 
 // A rule without head or body.
 fn m8(rt: &impl Print) -> io::Result<()> {
     let s = b"S:\x00\x00\x00\x00\x00E:\x00\x01";
-    plain(rt, b"M8", s)?;
-    set(rt, b"M8 {}", s, b"A:\x00\x00")
+    plain(rt, "M8", s)?;
+    set(rt, "M8 {}", s, b"A:\x00\x00")
 }
 
 // No rules.
 fn m9(rt: &impl Print) -> io::Result<()> {
     let s = b"E:\x00\x00";
-    plain(rt, b"M9", s)?;
-    set(rt, b"M9 {}", s, b"A:\x00\x00")?;
-    set(rt, b"M9 {1}", s, b"A:\x00\x01\x00\x00\x00\x00\x01")
+    plain(rt, "M9", s)?;
+    set(rt, "M9 {}", s, b"A:\x00\x00")?;
+    set(rt, "M9 {1}", s, b"A:\x00\x01\x00\x00\x00\x00\x01")
 }
 
 // 1. Its text has 35 bytes; 34 are too few.
@@ -189,9 +177,9 @@ fn fact(rt: &impl Print) -> io::Result<()> {
     let s = b"S:\x00\x00\x01\x00\x00\x00\x00\x00\x00\x01E:\x00\x01";
     let mut exact = [0u8; 35];
     let mut short = [0u8; 34];
-    plain(rt, b"fact", s)?;
-    ask_text(rt, b"fact into 35 bytes", s, &mut exact)?;
-    ask_text(rt, b"fact into 34 bytes", s, &mut short)
+    plain(rt, "fact", s)?;
+    Teller::new(rt, "fact into 35 bytes").ask_text(s, &mut exact)?;
+    Teller::new(rt, "fact into 34 bytes").ask_text(s, &mut short)
 }
 
 // M1's rule and the fact 1, assembled; then a rule more, which is dropped. An end record is no rule's, 27 bytes are one too few for both
@@ -201,20 +189,20 @@ fn assembly(rt: &impl Print) -> io::Result<()> {
     let fact = b"S:\x00\x00\x01\x00\x00\x00\x00\x00\x00\x01";
     let mut out = [0u8; 64];
     let mut short = [0u8; 27];
-    let fresh = ask_drop(rt, b"assembly not begun", Assembly::new())?;
-    ask_state(rt, b"assembly not begun", fresh)?;
-    let begun = ask_begin(rt, b"assembly", fresh, &out)?;
-    let one = ask_add(rt, b"assembly", begun, rule, &mut out)?;
-    let same = ask_add(rt, b"assembly into 27 bytes", one, fact, &mut short)?;
-    let two = ask_add(rt, b"assembly", same, fact, &mut out)?;
-    let three = ask_add(rt, b"assembly", two, rule, &mut out)?;
-    let dropped = ask_drop(rt, b"assembly", three)?;
-    let still = ask_add(rt, b"assembly end record", dropped, b"E:\x00\x02", &mut out)?;
-    ask_state(rt, b"assembly", still)?;
-    let closed = ask_close(rt, b"assembly", still, &mut out)?;
-    ask_state(rt, b"assembly closed", closed)?;
-    ask_program(rt, b"assembled", front(&out, closed.measure()))?;
-    ask_add(rt, b"assembly closed", closed, rule, &mut out)?;
+    let fresh = Teller::new(rt, "assembly not begun").ask_drop(Assembly::new())?;
+    Teller::new(rt, "assembly not begun").ask_state(fresh)?;
+    let begun = Teller::new(rt, "assembly").ask_begin(fresh, &out)?;
+    let one = Teller::new(rt, "assembly").ask_add(begun, rule, &mut out)?;
+    let same = Teller::new(rt, "assembly into 27 bytes").ask_add(one, fact, &mut short)?;
+    let two = Teller::new(rt, "assembly").ask_add(same, fact, &mut out)?;
+    let three = Teller::new(rt, "assembly").ask_add(two, rule, &mut out)?;
+    let dropped = Teller::new(rt, "assembly").ask_drop(three)?;
+    let still = Teller::new(rt, "assembly end record").ask_add(dropped, b"E:\x00\x02", &mut out)?;
+    Teller::new(rt, "assembly").ask_state(still)?;
+    let closed = Teller::new(rt, "assembly").ask_close(still, &mut out)?;
+    Teller::new(rt, "assembly closed").ask_state(closed)?;
+    Teller::new(rt, "assembled").ask_program(front(&out, closed.measure()))?;
+    Teller::new(rt, "assembly closed").ask_add(closed, rule, &mut out)?;
     Ok(())
 }
 

@@ -1,34 +1,36 @@
 // Answers as lines of text on standard output: the example, the function that was called, and what it answers.
 
-use check_set::{Check, Verdict};
+use check_set::Verdict;
+use record::Refusal;
 use record::number::reason_number;
-use record::{Reading, Refusal, Written};
-use record_show::Shown;
-use std::io;
+use record_show::Extent;
+use std::{fmt, io};
 
-// Words, as they are.
-fn tell(rt: &impl Print, text: &[u8]) -> io::Result<()> {
-    rt.write_all(text)
-}
+// Bytes at the end of a line: how many there are, and each as two digits behind a blank.
+#[derive(Clone, Copy)]
+struct Listed<'a>(&'a [u8]);
 
-// Words, and a number behind a blank.
-fn tell_number(rt: &impl Print, word: &[u8], n: usize) -> io::Result<()> {
-    tell(rt, word)?;
-    print!(rt; " {n}")
-}
-
-// A byte, as two digits behind a blank.
-fn tell_byte(rt: &impl Print, x: u8) -> io::Result<()> {
-    print!(rt; " {x:02x}")
-}
-
-// The rest of a line: how many bytes there are, and each.
-fn tell_rest(rt: &impl Print, b: &[u8]) -> io::Result<()> {
-    tell_number(rt, b"", b.len())?;
-    for x in b {
-        tell_byte(rt, *x)?;
+impl<'a> fmt::Display for Listed<'a> {
+    fn fmt<W: fmt::Write>(&self, f: &mut fmt::Formatter<W>) -> fmt::Result {
+        let n = self.0.len();
+        write!(f, "{n}")?;
+        for x in self.0 {
+            write!(f, " {x:02x}")?;
+        }
+        Ok(())
     }
-    tell(rt, b"\n")
+}
+
+// A refusal by its number and place.
+#[derive(Clone, Copy)]
+struct Refused(Refusal);
+
+impl fmt::Display for Refused {
+    fn fmt<W: fmt::Write>(&self, f: &mut fmt::Formatter<W>) -> fmt::Result {
+        let number = reason_number(self.0.reason);
+        let place = self.0.place;
+        write!(f, "refused {number} at {place}")
+    }
 }
 
 // The first n bytes of a buffer, which has as many.
@@ -36,123 +38,85 @@ pub fn front(b: &[u8], n: usize) -> &[u8] {
     if n <= b.len() { &b[..n] } else { b }
 }
 
-// A line's start.
-fn tell_call(rt: &impl Print, example: &[u8], call: &[u8]) -> io::Result<()> {
-    tell(rt, example)?;
-    tell(rt, b" ")?;
-    tell(rt, call)
+// The lines of one example.
+#[derive(Clone, Copy)]
+pub struct Teller<'a, R: Print> {
+    rt: &'a R,
+    example: &'a str,
 }
 
-// A line of bytes.
-pub fn tell_bytes(rt: &impl Print, example: &[u8], call: &[u8], b: &[u8]) -> io::Result<()> {
-    tell_call(rt, example, call)?;
-    tell_rest(rt, b)
-}
-
-fn tell_refusal(rt: &impl Print, x: Refusal) -> io::Result<()> {
-    let reason = x.reason;
-    tell_number(rt, b" refused", reason_number(reason) as usize)?;
-    tell_number(rt, b" at", x.place)?;
-    tell(rt, b"\n")
-}
-
-// What reading answers: the number of rules.
-pub fn tell_reading(rt: &impl Print, example: &[u8], call: &[u8], a: Reading) -> io::Result<()> {
-    tell_call(rt, example, call)?;
-    match a {
-        Reading::Count(n) => {
-            tell_number(rt, b"", n)?;
-            tell(rt, b"\n")
-        }
-        Reading::Refused(x) => tell_refusal(rt, x),
+impl<'a, R: Print> Teller<'a, R> {
+    pub fn new(rt: &'a R, example: &'a str) -> Teller<'a, R> {
+        Teller { rt, example }
     }
-}
 
-// A length.
-pub fn tell_length(rt: &impl Print, example: &[u8], call: &[u8], n: usize) -> io::Result<()> {
-    tell_call(rt, example, call)?;
-    tell_number(rt, b"", n)?;
-    tell(rt, b"\n")
-}
-
-// Where the record of a rule lies.
-pub fn tell_shown(
-    rt: &impl Print,
-    example: &[u8],
-    call: &[u8],
-    number: u32,
-    a: Shown,
-) -> io::Result<()> {
-    tell_call(rt, example, call)?;
-    tell_number(rt, b"", number as usize)?;
-    match a {
-        Shown::At(e) => {
-            tell_number(rt, b" at", e.start)?;
-            tell_number(rt, b" length", e.size)?;
-            tell(rt, b"\n")
-        }
-        Shown::Refused(x) => tell_refusal(rt, x),
+    // A line: what the call came to, behind the example and the call.
+    fn tell(&self, call: &str, what: impl fmt::Display + Drop) -> io::Result<()> {
+        let example = self.example;
+        println!(self.rt; "{example} {call} {what}")
     }
-}
 
-// The record of a rule.
-pub fn tell_record(
-    rt: &impl Print,
-    example: &[u8],
-    call: &[u8],
-    number: u32,
-    record: &[u8],
-) -> io::Result<()> {
-    tell_call(rt, example, call)?;
-    tell_number(rt, b"", number as usize)?;
-    tell(rt, b" length")?;
-    tell_rest(rt, record)
-}
-
-// What was written to the start of a buffer.
-pub fn tell_written(
-    rt: &impl Print,
-    example: &[u8],
-    call: &[u8],
-    a: Written,
-    out: &[u8],
-) -> io::Result<()> {
-    tell_call(rt, example, call)?;
-    match a {
-        Written::Length(n) => tell_rest(rt, front(out, n)),
-        Written::Refused(x) => tell_refusal(rt, x),
+    // Bytes.
+    pub fn bytes(&self, call: &str, b: &[u8]) -> io::Result<()> {
+        self.tell(call, Listed(b))
     }
-}
 
-fn tell_verdict(rt: &impl Print, v: Verdict, out: &[u8]) -> io::Result<()> {
-    match v {
-        Verdict::Clash(n) => {
-            tell_number(rt, b" clash", n)?;
-            tell(rt, b"\n")
-        }
-        Verdict::Broken(n) => {
-            tell_number(rt, b" broken", n.0 as usize)?;
-            tell(rt, b"\n")
-        }
-        Verdict::Smaller(n) => {
-            tell(rt, b" smaller")?;
-            tell_rest(rt, front(out, n))
-        }
-        Verdict::Yes => tell(rt, b" yes\n"),
+    // A length.
+    pub fn length(&self, call: &str, n: usize) -> io::Result<()> {
+        self.tell(call, n)
     }
-}
 
-// What a check answers; a smaller model stands at the start of a buffer.
-pub fn tell_check(
-    rt: &impl Print,
-    example: &[u8],
-    call: &[u8],
-    a: Check,
-    out: &[u8],
-) -> io::Result<()> {
-    tell_call(rt, example, call)?;
-    match a {
-        Check::Found(v) => tell_verdict(rt, v, out),
-        Check::Refused(x) => tell_refusal(rt, x),
+    // A number of rules.
+    pub fn count(&self, call: &str, a: Result<usize, Refusal>) -> io::Result<()> {
+        match a {
+            Ok(n) => self.tell(call, n),
+            Err(x) => self.tell(call, Refused(x)),
+        }
+    }
+
+    // Where the record of a rule lies.
+    pub fn shown(&self, call: &str, number: u32, a: Result<Extent, Refusal>) -> io::Result<()> {
+        match a {
+            Ok(e) => {
+                let start = e.start;
+                let size = e.size;
+                self.tell(call, format_args!("{number} at {start} length {size}"))
+            }
+            Err(x) => {
+                let refused = Refused(x);
+                self.tell(call, format_args!("{number} {refused}"))
+            }
+        }
+    }
+
+    // The record of a rule.
+    pub fn record(&self, call: &str, number: u32, record: &[u8]) -> io::Result<()> {
+        let listed = Listed(record);
+        self.tell(call, format_args!("{number} length {listed}"))
+    }
+
+    // What was written to the start of a buffer.
+    pub fn written(&self, call: &str, a: Result<usize, Refusal>, out: &[u8]) -> io::Result<()> {
+        match a {
+            Ok(n) => self.tell(call, Listed(front(out, n))),
+            Err(x) => self.tell(call, Refused(x)),
+        }
+    }
+
+    // What a check answers; a smaller model stands at the start of a buffer.
+    pub fn checked(&self, call: &str, a: Result<Verdict, Refusal>, out: &[u8]) -> io::Result<()> {
+        match a {
+            Ok(Verdict::Clash(n)) => self.tell(call, format_args!("clash {n}")),
+            Ok(Verdict::Broken(rule)) => {
+                let n = rule.0;
+                self.tell(call, format_args!("broken {n}"))
+            }
+            Ok(Verdict::Smaller(n)) => {
+                let listed = Listed(front(out, n));
+                self.tell(call, format_args!("smaller {listed}"))
+            }
+            Ok(Verdict::Yes) => self.tell(call, "yes"),
+            Err(x) => self.tell(call, Refused(x)),
+        }
     }
 }

@@ -2,7 +2,7 @@
 -- proves them all.
 -- In order: how an example is written; what it says; the examples.
 -- Assumes nothing.
-use Rattle.std.specs.Prelude.{ℕ, ◌≡◌, ◌↔◌, length, replicate}
+use Rattle.std.specs.Prelude.{ℕ, ◌≡◌, ◌↔◌, length, replicate, Ok}
 use mathlib.Core.List.{List, [], ◌∷◌, ◌++◌, Memᴰ}
 use Rattle.literal.specs.declared.Limits.{Limits}
 use Rattle.literal.specs.declared.SignedAtom.{SignedAtom}
@@ -14,8 +14,6 @@ use Rattle.semantics.specs.Set.{LiteralSet, Subset, set_of}
 use Rattle.semantics.specs.Rule.{Rule, strict, defeasible, Program}
 use Rattle.semantics.specs.Meaning.{AnswerSet}
 use Rattle.semantics.specs.Translation.{rule_defeated, translation}
-use Rattle.record.specs.declared.Written.TheVariants.{Length}
-use Rattle.record.specs.Result.{accepted}
 use Rattle.record.specs.Layout.{encoded_program}
 use Rattle.record.specs.Reading.{parsed}
 use Rattle.set.specs.Layout.{encoded_set}
@@ -23,7 +21,6 @@ use Rattle.aspif.specs.Aspif.{exported}
 use Rattle.extend.specs.Extend.{extended}
 use Rattle.check_set.specs.declared.Verdict.{Verdict}
 use Rattle.check_set.specs.declared.Verdict.TheVariants.{Clash, Broken, Smaller, Yes}
-use Rattle.check_set.specs.declared.Check.TheVariants.{Found}
 use Rattle.check_set.specs.Check.{checked}
 use Rattle.filter_print.specs.Filter.{filtered}
 
@@ -40,7 +37,7 @@ pub data Example : Type 0 where
 -- a program's bytes are read back as the program and have this length, and so many bytes and rules has its translation;
 -- of all sets over these literals, exactly these are answer sets
 pub record Answers (p : Program) (bytes translated rules : ℕ) (over : List Literal) (sets : List (List Literal)) : Type 0 where
-  pub read : parsed source (encoded_program p) ≡ accepted p
+  pub read : parsed source (encoded_program p) ≡ Ok p
   pub source_bytes : length (encoded_program p) ≡ bytes
   pub translation_bytes : length (encoded_program (translation p)) ≡ translated
   pub translation_rules : length (translation p) ≡ rules
@@ -49,7 +46,7 @@ pub record Answers (p : Program) (bytes translated rules : ℕ) (over : List Lit
 -- what a check in form F answers, lent an output slice of zeros as long as the set's record, and what it leaves there
 abbrev pub Checks : Limits → List ℕ → List Literal → Verdict → List ℕ → Type 0
 Checks F s ls v out =
-    checked F s (encoded_set ls) (replicate (length (encoded_set ls)) 0) ≡ record { answer = Found v; buffer = out }
+    checked F s (encoded_set ls) (replicate (length (encoded_set ls)) 0) ≡ record { answer = Ok v; buffer = out }
 
 -- what an example says. An extension and a text fill an output slice of their own length; a check says the same in both forms
 unfoldable pub Says : Example → Type 0
@@ -57,9 +54,9 @@ Says (filter input output) = filtered input ≡ output
 Says (answers p bytes translated rules over sets) = Answers p bytes translated rules over sets
 Says (extension p ls ms) =
     extended source (encoded_program p) (encoded_set ls) (replicate (length (encoded_set ms)) 0)
-    ≡ record { answer = Length (length (encoded_set ms)); buffer = encoded_set ms }
+    ≡ record { answer = Ok (length (encoded_set ms)); buffer = encoded_set ms }
 Says (check s ls v out) = Checks source s ls v out × Checks plain s ls v out
-Says (exports p n text) = exported plain (encoded_program p) (replicate n 0) ≡ record { answer = Length n; buffer = text }
+Says (exports p n text) = exported plain (encoded_program p) (replicate n 0) ≡ record { answer = Ok n; buffer = text }
 
 -- atoms, negated atoms and marks by their numbers
 abbrev pub atom : ℕ → SignedAtom

@@ -1,13 +1,13 @@
 // Answers as 64-bit words.
 
 ghost use Rattle.std.specs.Prelude.{◌≡◌};
-ghost use Rattle.aspda_word.specs.Words.{refusal_word, reading_word, written_word, extent_word, shown_word, verdict_word, check_word};
-ghost use Rattle.aspda_word.specs.Code.{ShortPlace, ShortExtent, ShortReading, ShortWritten, ShortShown, ShortVerdict, ShortCheck};
+ghost use Rattle.aspda_word.specs.Words.{refusal_word, count_word, extent_word, shown_word, verdict_word, check_word};
+ghost use Rattle.aspda_word.specs.Code.{ShortPlace, ShortExtent, ShortCount, ShortShown, ShortVerdict, ShortCheck};
 
-use check_set::{Check, Verdict};
+use check_set::Verdict;
+use record::Refusal;
 use record::number::reason_number;
-use record::{Reading, Refusal, Written};
-use record_show::{Extent, Shown};
+use record_show::Extent;
 
 fn refusal_word(x: Refusal) -> u64
     requires { ShortPlace x }
@@ -18,23 +18,13 @@ fn refusal_word(x: Refusal) -> u64
     9223372036854775808 + number as u64 * 4294967296 + x.place as u64
 }
 
-pub fn reading_word(a: Reading) -> u64
-    requires { ShortReading a }
-    ensures { result ≡ reading_word a }
+pub fn count_word(a: Result<usize, Refusal>) -> u64
+    requires { ShortCount a }
+    ensures { result ≡ count_word a }
 {
     match a {
-        Reading::Count(n) => n as u64,
-        Reading::Refused(x) => refusal_word(x),
-    }
-}
-
-pub fn written_word(a: Written) -> u64
-    requires { ShortWritten a }
-    ensures { result ≡ written_word a }
-{
-    match a {
-        Written::Length(n) => n as u64,
-        Written::Refused(x) => refusal_word(x),
+        Ok(n) => n as u64,
+        Err(x) => refusal_word(x),
     }
 }
 
@@ -45,13 +35,13 @@ fn extent_word(e: Extent) -> u64
     e.start as u64 * 4294967296 + e.size as u64
 }
 
-pub fn shown_word(a: Shown) -> u64
+pub fn shown_word(a: Result<Extent, Refusal>) -> u64
     requires { ShortShown a }
     ensures { result ≡ shown_word a }
 {
     match a {
-        Shown::At(e) => extent_word(e),
-        Shown::Refused(x) => refusal_word(x),
+        Ok(e) => extent_word(e),
+        Err(x) => refusal_word(x),
     }
 }
 
@@ -67,12 +57,12 @@ fn verdict_word(v: Verdict) -> u64
     }
 }
 
-pub fn check_word(a: Check) -> u64
+pub fn check_word(a: Result<Verdict, Refusal>) -> u64
     requires { ShortCheck a }
     ensures { result ≡ check_word a }
 {
     match a {
-        Check::Found(v) => verdict_word(v),
-        Check::Refused(x) => refusal_word(x),
+        Ok(v) => verdict_word(v),
+        Err(x) => refusal_word(x),
     }
 }

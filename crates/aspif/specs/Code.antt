@@ -3,12 +3,12 @@
 -- text, have room; a program within limits, and what is delivered of it; limits within which a program is so; how much room is enough for
 -- any text.
 -- Assumes nothing.
-use Rattle.std.specs.Prelude.{ℕ, ◌+◌, ◌*◌, ◌≤◌, ◌<◌, ◌≡◌, Bool, true, false, List, ◌++◌, map, T, leb, length}
+use Rattle.std.specs.Prelude.{ℕ, ◌+◌, ◌*◌, ◌≤◌, ◌<◌, ◌≡◌, Bool, true, false, List, ◌++◌, map, T, leb, length, Ok}
 use Rattle.literal.specs.declared.Limits.{Limits}
 use Rattle.semantics.specs.Set.{each_of}
 use Rattle.semantics.specs.Rule.{Rule, Program}
 use Rattle.semantics.specs.Translation.{record_length}
-use Rattle.record.specs.Result.{accepted, Outcome, delivered}
+use Rattle.record.specs.Result.{Outcome, delivered}
 use Rattle.record.specs.Layout.{encoded_program, keeps}
 use Rattle.aspif_meaning.specs.Program.{numbered}
 use Rattle.aspif_text.specs.Text.{rule, lines, first_line, last_line, aspif_text}
@@ -60,10 +60,10 @@ pub record Within (F : Limits) (n : ℕ) (p : Program) : Type 0 where
 
 -- what is delivered of a program that was read, by its marks and by its own numbers
 unfoldable pub outcome_in : List ℕ → Program → List ℕ → Outcome
-outcome_in bits p out = delivered (accepted (text_in bits p)) out
+outcome_in bits p out = delivered (Ok (text_in bits p)) out
 
 unfoldable pub outcome_of : Program → List ℕ → Outcome
-outcome_of p out = delivered (accepted (aspif_text p)) out
+outcome_of p out = delivered (Ok (aspif_text p)) out
 
 -- each program within these limits has strict rules alone and no sheets, and is numberable, and its numbers, counts and atoms have few figures
 pub record Exportable (F : Limits) : Type 0 where

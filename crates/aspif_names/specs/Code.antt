@@ -1,16 +1,20 @@
 -- The lines of constraints and of names as code writes them: place by place of a row of atoms.
--- In order: constraints: which atoms have one, what a place has, all lines; names, of atoms or, where true, of their negations: the
+-- In order: constraints: which atoms have one, how a line starts, what a place has, all lines; names, of atoms or, where true, of their negations: the
 -- letter, where the row starts, a line, what a place has, all lines; what places in a row have, one behind the other.
 -- Assumes nothing.
-use Rattle.std.specs.Prelude.{ℕ, zero, suc, ◌+◌, Bool, true, false, cond, ◌&&◌, List, [], ◌++◌, map}
+use Rattle.std.specs.Prelude.{ℕ, zero, suc, ◌+◌, Bool, true, false, cond, ◌&&◌, List, [], ◌∷◌, ◌++◌, map}
 use Rattle.literal.specs.declared.SignedAtom.{SignedAtom}
 use Rattle.aspif_meaning.specs.Program.{never_both}
-use Rattle.aspif_text.specs.Text.{rule, output, rule_line, output_line, output_of, lines}
+use Rattle.aspif_text.specs.Text.{blank, rule, output, rule_line, output_line, output_of, lines}
 use Rattle.aspif_place.specs.Code.{row_places, marked, number_at_place, pairs_from, positive_atom, negative_atom, names_from}
 
 -- the atom is marked both ways
 unfoldable pub both_ways : List ℕ → ℕ → Bool
 both_ways bits a = marked bits a && marked bits (row_places + a)
+
+-- how the line of a constraint starts: `1 0 0 0 2`
+abbrev pub pair_start : List ℕ
+pair_start = 0x31 ∷ blank ∷ 0x30 ∷ blank ∷ 0x30 ∷ blank ∷ 0x30 ∷ blank ∷ 0x32 ∷ []
 
 -- the line of the constraint that the place of an atom has, if it has one
 unfoldable pub pair_at : List ℕ → ℕ → List ℕ

@@ -3,17 +3,17 @@
 ghost use Rattle.std.specs.Prelude.{◌+◌, ◌*◌, ◌≤◌, ◌<◌, ◌≡◌, length};
 ghost use Rattle.buffer.specs.Write.{Wrote};
 ghost use Rattle.aspif_place.specs.Code.{row_places};
-ghost use Rattle.aspif_rule.specs.Code.{Ready, Long};
+ghost use Rattle.aspif_rule.specs.Code.{Long};
 ghost use Rattle.aspif_names.specs.Code.{letter_of, row_from, name_line, name_at, name_lines};
 
-use aspif_number::numbers::{is_marked, number_at};
 use aspif_number::place::ROW_PLACES;
 use aspif_rule::fields::{measure_field, write_field};
+use aspif_rule::numbering::Numbering;
 use aspif_rule::word::{put_end, put_word};
 use buffer::put::put_byte;
 use decimal::decimal::{count_figures, write_decimal};
 
-// The letter of atoms, and of negations.
+// The letter of atoms, and of negations. Which it is stays a bool, as the definitions have it: an enum would only be mapped to one.
 fn pick_letter(negated: bool) -> u8
     ensures { result ≡ letter_of negated }
 {
@@ -25,7 +25,8 @@ fn pick_letter(negated: bool) -> u8
 
 // Where the places of atoms start, and those of negations.
 fn pick_row(negated: bool) -> usize
-    ensures { result ≡ row_from negated }
+    ensures value { result ≡ row_from negated }
+    ensures upper_bound { result ≤ row_places }
 {
     if negated {
         return ROW_PLACES;
@@ -58,69 +59,49 @@ fn write_name(negated: bool, a: u32, n: u32, out: &mut [u8], to: usize) -> usize
 }
 
 // What the place of an atom, or of its negation, has of names, measured.
-fn measure_name_at(bits: &[u64], counts: &[u32], negated: bool, a: u32) -> usize
-    requires a_lt_row_places { a < row_places }
-    requires ready { Ready bits.now counts.now }
-    ensures { Long result (name_at bits.now negated a) 32 }
+fn measure_name_at(numbering: &Numbering, negated: bool, a: u32) -> usize
+    requires { a < row_places }
+    ensures { Long result (name_at numbering.now negated a) 32 }
 {
     let place = pick_row(negated) + a as usize;
-    if is_marked(bits, place) {
-        return measure_name(negated, a, number_at(bits, counts, place));
+    if numbering.is_marked(place) {
+        return measure_name(negated, a, numbering.number_at(place));
     }
     0
 }
 
 // What the place of an atom, or of its negation, has of names, written; where it ends.
-fn write_name_at(
-    bits: &[u64],
-    counts: &[u32],
-    negated: bool,
-    a: u32,
-    out: &mut [u8],
-    to: usize,
-) -> usize
+fn write_name_at(numbering: &Numbering, negated: bool, a: u32, out: &mut [u8], to: usize) -> usize
     requires a_lt_row_places { a < row_places }
-    requires ready { Ready bits.now counts.now }
-    requires a_in_bounds { to + length (name_at bits.now negated a) ≤ length out.old }
-    ensures { Wrote out.old out.new to (name_at bits.now negated a) result }
+    requires a_in_bounds { to + length (name_at numbering.now negated a) ≤ length out.old }
+    ensures { Wrote out.old out.new to (name_at numbering.now negated a) result }
 {
     let place = pick_row(negated) + a as usize;
-    if is_marked(bits, place) {
-        let n = number_at(bits, counts, place);
-        return write_name(negated, a, n, out, to);
+    if numbering.is_marked(place) {
+        return write_name(negated, a, numbering.number_at(place), out, to);
     }
     to
 }
 
 // The length of the lines of the names of all atoms, or of all negations.
-pub fn measure_names(bits: &[u64], counts: &[u32], negated: bool) -> usize
-    requires { Ready bits.now counts.now }
-    ensures { Long result (name_lines bits.now negated) (32 * row_places) }
+pub fn measure_names(numbering: &Numbering, negated: bool) -> usize
+    ensures { Long result (name_lines numbering.now negated) (32 * row_places) }
 {
-    let mut a: u32 = 0;
-    let mut left = ROW_PLACES;
     let mut total: usize = 0;
-    while 0 < left {
-        total += measure_name_at(bits, counts, negated, a);
-        a += 1;
-        left -= 1;
+    for a in 0..ROW_PLACES {
+        total += measure_name_at(numbering, negated, a as u32);
     }
     total
 }
 
 // The lines of those names, by ascending atoms; where they end.
-pub fn write_names(bits: &[u64], counts: &[u32], negated: bool, out: &mut [u8], to: usize) -> usize
-    requires ready { Ready bits.now counts.now }
-    requires negated_in_bounds { to + length (name_lines bits.now negated) ≤ length out.old }
-    ensures { Wrote out.old out.new to (name_lines bits.now negated) result }
+pub fn write_names(numbering: &Numbering, negated: bool, out: &mut [u8], to: usize) -> usize
+    requires { to + length (name_lines numbering.now negated) ≤ length out.old }
+    ensures { Wrote out.old out.new to (name_lines numbering.now negated) result }
 {
-    let mut a: u32 = 0;
-    let mut left = ROW_PLACES;
     let mut next = to;
-    while 0 < left {
-        next = write_name_at(bits, counts, negated, a, out, next);
-        a += 1;
-        left -= 1;
+    for a in 0..ROW_PLACES {
+        next = write_name_at(numbering, negated, a as u32, out, next);
     }
     next
 }

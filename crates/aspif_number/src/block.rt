@@ -29,17 +29,11 @@ fn gather_run(
     requires count_in_bounds_3 { to + count ≤ length numbers.old }
     ensures { Gathers masks.old numbers.old masks.new numbers.new to (map (number_at_place bits.now) (places_at s.now from count)) }
 {
-    let mut at = from;
-    let mut left = count;
-    let mut k = to;
-    while 0 < left {
-        let i = place_at(s, at);
+    for j in 0..count {
+        let i = place_at(s, from + 5 * j);
         let w = i / WORD;
-        masks[k] = bits[w] & (single_at((i % WORD) as u32) - 1);
-        numbers[k] = counts[w];
-        at += 5;
-        k += 1;
-        left -= 1;
+        masks[to + j] = bits[w] & (single_at((i % WORD) as u32) - 1);
+        numbers[to + j] = counts[w];
     }
 }
 
@@ -50,14 +44,13 @@ fn finish_numbers(masks: &[u64], numbers: &mut [u32], count: usize)
     requires low { Low masks.now numbers.old count }
     ensures { Finished masks.now numbers.old numbers.new count }
 {
-    let mut k: usize = 0;
-    while k < count {
-        numbers[k] = numbers[k] + u64::count_ones(masks[k]) + 1;
-        k += 1;
+    for k in 0..count {
+        numbers[k] += masks[k].count_ones() + 1;
     }
 }
 
-// The numbers of the literals of `rules` rules whose records start the part; how many bytes these have.
+// The numbers of the literals of `rules` rules whose records start the part; how many bytes these have. Marks and counts come as two slices,
+// as in `number_at`: `Numbering` of aspif_rule has a word for each place, and that is more than is asked here.
 pub fn number_rules(
     part: &[u8],
     rules: usize,
@@ -77,14 +70,12 @@ pub fn number_rules(
 {
     let mut at: usize = 0;
     let mut k: usize = 0;
-    let mut done: usize = 0;
-    while done < rules {
+    for _ in 0..rules {
         let here = &part[at..];
         let count = count_literals(here[4], here[5], here[6]);
         gather_run(here, 7, count, bits, counts, masks, numbers, k);
         k += count;
         at += record_size(here);
-        done += 1;
     }
     finish_numbers(masks, numbers, k);
     at

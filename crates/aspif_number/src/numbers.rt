@@ -13,12 +13,10 @@ fn sum_counts(counts: &mut [u32])
     ensures { Sums counts.old counts.new }
 {
     let mut sum: u32 = 0;
-    let mut w: usize = 0;
-    while w < counts.len() {
-        let tally = counts[w];
-        counts[w] = sum;
+    for count in counts.iter_mut() {
+        let tally = *count;
+        *count = sum;
         sum += tally;
-        w += 1;
     }
 }
 

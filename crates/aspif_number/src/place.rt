@@ -25,7 +25,8 @@ pub const WORD: usize = 64;
 pub const WORDS: usize = 6424;
 
 // The row of a kind and tag, counted from the shift on. The rows are made before the match, so that it only picks one: kinds come in no
-// order that a processor could foresee, and this way it need not.
+// order that a processor could foresee, and this way it need not. The kind is the record's byte, whose order is the literals': an enum of it
+// would be made and taken apart again in the same breath.
 fn pick_row(kind: u8, tag: u16) -> usize
     ensures { result ≡ shift + row_of kind tag }
 {

@@ -1,14 +1,13 @@
 -- How code takes a rule's numbers from its record, and what it asks of the marks and counts by which it numbers.
--- In order: marks and counts that are ready; numbers in a slice; a rule in numbers, and the start of its line; a record that can be read so;
--- a length that was measured; numbers that were looked up before, a rule in them, and the lines of several.
+-- In order: marks and counts that are ready; numbers in a slice; a rule in numbers, and the start of its line; a length that was
+-- measured; a rule in numbers that were looked up before, and the lines of several.
 -- Assumes nothing.
 use Rattle.std.specs.Prelude.{ℕ, zero, suc, ◌+◌, ◌*◌, ◌≤◌, ◌≡◌, false, List, [], ◌∷◌, ◌++◌, map, length, take, drop}
 use Rattle.record.specs.Header.{head_count, positive_count, naf_count}
-use Rattle.record_walk.specs.Code.{record_size}
 use Rattle.aspif_meaning.specs.Ground.{GroundRule}
-use Rattle.aspif_text.specs.Text.{blank, field, fields, body_text, rule_line}
+use Rattle.aspif_text.specs.Text.{blank, field, fields, rule_line}
 use Rattle.aspif_place.specs.Code.{words, number_at_place}
-use Rattle.aspif_number.specs.Code.{Summed, places_at, literal_count, Room, record_part, records_literals}
+use Rattle.aspif_number.specs.Code.{Summed, places_at, record_part, records_literals}
 
 -- there is a word for each place, with the count of the marks below it
 pub record Ready (bits counts : List ℕ) : Type 0 where
@@ -32,11 +31,6 @@ ground_at bits t =
 unfoldable pub head_text : List ℕ → List ℕ
 head_text hs = 0x31 ∷ blank ∷ 0x30 ∷ (field false (length hs) ++ fields false hs)
 
--- the record is whole, and each of its literals has a place
-pub record Readable (bits t : List ℕ) : Type 0 where
-  pub whole : record_size t ≤ length t
-  pub room : Room (length bits) (places_at t 7 (literal_count t))
-
 -- r is the length of bs, and at most so much: for sums of lengths
 pub record Long (r : ℕ) (bs : List ℕ) (most : ℕ) : Type 0 where
   pub long : r ≡ length bs
@@ -46,14 +40,6 @@ pub record Long (r : ℕ) (bs : List ℕ) (most : ℕ) : Type 0 where
 pub record CountsLong (heads positives nafs r : ℕ) : Type 0 where
   pub long : r ≡ 6 + nafs + (length (field false heads) + length (field false (positives + nafs)))
   pub short : r ≤ 28 + nafs
-
--- n of the numbers ns, from `from` on
-abbrev pub numbers_from : List ℕ → ℕ → ℕ → List ℕ
-numbers_from ns from n = take n (drop from ns)
-
--- the body of p positive numbers and then q under naf, from `from` on
-abbrev pub body_from : List ℕ → ℕ → ℕ → ℕ → List ℕ
-body_from ns from p q = body_text (numbers_from ns from p) (numbers_from ns (from + p) q)
 
 -- the rule whose record starts t, its numbers taken from the front of ns
 unfoldable pub ground_of : List ℕ → List ℕ → GroundRule

@@ -2,16 +2,16 @@
 
 ghost use Rattle.std.specs.Prelude.{◌+◌, ◌*◌, ◌≤◌, false, length};
 ghost use Rattle.buffer.specs.Write.{Wrote, Begun};
-ghost use Rattle.decimal.specs.Code.{Figures};
 ghost use Rattle.aspif_text.specs.Text.{field, fields};
+ghost use Rattle.aspif_place.specs.Code.{words};
 ghost use Rattle.aspif_number.specs.Code.{Room, places_at};
-ghost use Rattle.aspif_rule.specs.Code.{Ready, numbers_at, Long};
+ghost use Rattle.aspif_rule.specs.Code.{numbers_at, Long};
 
-use aspif_number::numbers::number_at;
+use crate::numbering::Numbering;
 use aspif_number::place::place_at;
 use buffer::put::{put_byte, put_eight};
 use decimal::decimal::{count_figures, write_decimal};
-use decimal::table::pack_decimal;
+use decimal::table::Table;
 
 // The length of a field.
 pub fn measure_field(n: u32) -> usize
@@ -20,7 +20,7 @@ pub fn measure_field(n: u32) -> usize
     1 + count_figures(n)
 }
 
-// A field, negative under naf; where it ends.
+// A field, negative under naf; where it ends. The flag is the field's sign.
 pub fn write_field(naf: bool, n: u32, out: &mut [u8], at: usize) -> usize
     requires { at + length (field naf n) ≤ length out.old }
     ensures { Wrote out.old out.new at (field naf n) result }
@@ -35,16 +35,15 @@ pub fn write_field(naf: bool, n: u32, out: &mut [u8], at: usize) -> usize
 
 // A field, negative under naf, at the end of a text that is being made; where it ends. What stands behind that text does not matter: so
 // eight bytes are stored, whatever the field's length, and no branch asks for it.
-pub fn put_field(naf: bool, n: u32, table: &[u32], text: &mut [u8], at: usize) -> usize
-    requires figures { Figures table.now }
-    requires at_in_bounds { at + 12 ≤ length text.old }
+pub fn put_field(naf: bool, n: u32, table: Table, text: &mut [u8], at: usize) -> usize
+    requires { at + 12 ≤ length text.old }
     ensures begun { Begun text.old text.new at (field naf n) result }
     ensures upper_bound { result ≤ at + 12 }
 {
     if n >= 1000000 {
         return write_field(naf, n, text, at);
     }
-    let packed = pack_decimal(n, table);
+    let packed = table.pack_decimal(n);
     let figures = packed % 72057594037927936;
     let many = (packed / 72057594037927936) as usize;
     if naf {
@@ -56,21 +55,15 @@ pub fn put_field(naf: bool, n: u32, table: &[u32], text: &mut [u8], at: usize) -
 }
 
 // The length of the fields of `count` literals that stand one behind the other from `from` on.
-pub fn measure_run(s: &[u8], from: usize, count: usize, bits: &[u64], counts: &[u32]) -> usize
+pub fn measure_run(s: &[u8], from: usize, count: usize, numbering: &Numbering) -> usize
     requires count_in_bounds { from + 5 * count ≤ length s.now }
     requires count_bound { count ≤ 765 }
-    requires room { Room (length bits.now) (places_at s.now from count) }
-    requires ready { Ready bits.now counts.now }
-    ensures { Long result (fields false (numbers_at bits.now s.now from count)) (11 * count) }
+    requires room { Room words (places_at s.now from count) }
+    ensures { Long result (fields false (numbers_at numbering.now s.now from count)) (11 * count) }
 {
-    let mut at = from;
-    let mut left = count;
     let mut total: usize = 0;
-    while 0 < left {
-        let n = number_at(bits, counts, place_at(s, at));
-        total += measure_field(n);
-        at += 5;
-        left -= 1;
+    for i in 0..count {
+        total += measure_field(numbering.number_at(place_at(s, from + 5 * i)));
     }
     total
 }

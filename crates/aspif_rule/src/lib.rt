@@ -4,5 +4,6 @@
 
 pub mod fields;
 pub mod lines;
+pub mod numbering;
 pub mod rules;
 pub mod word;

@@ -3,14 +3,12 @@
 -- assembled; what a call promises of its answer, of the state and of the lent buffer.
 -- A call sees the lent buffer's length alone, never its bytes.
 -- Assumes nothing.
-use Rattle.std.specs.Prelude.{ℕ, ◌+◌, ◌-◌, ◌≡◌, not, List, [], ◌∷◌, ◌++◌, ltb, eqb, length, take}
+use Rattle.std.specs.Prelude.{ℕ, ◌+◌, ◌-◌, ◌≡◌, not, List, [], ◌∷◌, ◌++◌, ltb, eqb, length, take, Ok, Err}
 use Rattle.buffer.specs.Write.{write}
 use Rattle.literal.specs.declared.Limits.{Limits}
 use Rattle.record.specs.declared.Reason.TheVariants.{OutputShort, OutOfTurn}
-use Rattle.record.specs.declared.Reading.{Reading}
-use Rattle.record.specs.declared.Reading.TheVariants.{Count, Refused}
 use Rattle.record.specs.Refusal.{refusal}
-use Rattle.record.specs.Result.{Result, accepted, refused, and_then, refuse_if}
+use Rattle.record.specs.Result.{Answer, and_then, refuse_if}
 use Rattle.record.specs.Layout.{encoded_end}
 use Rattle.record.specs.Reading.{rule_only}
 use Rattle.assembly.specs.State.{Stage, before, opened, closed, Shape, shape_of, shapes, held_length, state_bytes, encoded_stage, stage_of}
@@ -29,34 +27,34 @@ pub record Move : Type 0 where
   pub bytes : List ℕ
 
 -- 15: the stage takes no such call
-abbrev out_of_turn : Result Move
-out_of_turn = refused (refusal OutOfTurn 0)
+abbrev out_of_turn : Answer Move
+out_of_turn = Err (refusal OutOfTurn 0)
 
 -- 9 if what is then held, and an end record, has no room
-unfoldable pub room_for : ℕ → ℕ → Move → Result Move
-room_for room held m = refuse_if (ltb room (held + 4)) (refusal OutputShort 0) (accepted m)
+unfoldable pub room_for : ℕ → ℕ → Move → Answer Move
+room_for room held m = refuse_if (ltb room (held + 4)) (refusal OutputShort 0) (Ok m)
 
 -- begin: no rule is held. It writes nothing
-unfoldable pub begun : ℕ → Result Move
+unfoldable pub begun : ℕ → Answer Move
 begun room = room_for room 0 (record { stage = opened []; at = 0; bytes = [] })
 
 -- add, where rules of these shapes are held: what reading refuses of the record; then 9. The record is written behind those that are held
-unfoldable pub added : Limits → List ℕ → List Shape → ℕ → Result Move
+unfoldable pub added : Limits → List ℕ → List Shape → ℕ → Answer Move
 added F t ss room =
     and_then (rule_only F (length ss) t) (λ size.
     room_for room (held_length ss + size) (record { stage = opened (ss ++ (shape_of t ∷ [])); at = held_length ss; bytes = take size t }))
 
 -- drop: 15 where no rule is held. It writes nothing
-unfoldable pub dropped : List Shape → Result Move
+unfoldable pub dropped : List Shape → Answer Move
 dropped ss =
-    refuse_if (eqb (length ss) 0) (refusal OutOfTurn 0) (accepted (record { stage = opened (take (length ss - 1) ss); at = 0; bytes = [] }))
+    refuse_if (eqb (length ss) 0) (refusal OutOfTurn 0) (Ok (record { stage = opened (take (length ss - 1) ss); at = 0; bytes = [] }))
 
 -- close: the end record is written behind the rules
-unfoldable pub ended : List Shape → ℕ → Result Move
+unfoldable pub ended : List Shape → ℕ → Answer Move
 ended ss room = room_for room (held_length ss) (record { stage = closed ss; at = held_length ss; bytes = encoded_end (length ss) })
 
 -- a call at a stage, lent so much room
-unfoldable pub move : Limits → Call → Stage → ℕ → Result Move
+unfoldable pub move : Limits → Call → Stage → ℕ → Answer Move
 move F begin s room = begun room
 move F (add t) before room = out_of_turn
 move F (add t) (opened ss) room = added F t ss room
@@ -70,15 +68,15 @@ move F close (closed ss) room = out_of_turn
 
 -- what a call answers, and the state's bytes and the lent buffer then
 pub record Called : Type 0 where
-  pub answer : Reading
+  pub answer : Answer ℕ
   pub state : List ℕ
   pub buffer : List ℕ
 
 -- an accepted call answers how many rules are then held; a refused one changes nothing
-unfoldable pub moved : Limits → List ℕ → List ℕ → Result Move → Called
-moved F state out (refused x) = record { answer = Refused x; state = state; buffer = out }
-moved F state out (accepted m) =
-    record { answer = Count (length (shapes m.stage)); state = encoded_stage F m.stage; buffer = write out m.at m.bytes }
+unfoldable pub moved : Limits → List ℕ → List ℕ → Answer Move → Called
+moved F state out (Err x) = record { answer = Err x; state = state; buffer = out }
+moved F state out (Ok m) =
+    record { answer = Ok (length (shapes m.stage)); state = encoded_stage F m.stage; buffer = write out m.at m.bytes }
 
 -- a call: 15 for a slice of another length than a state's, before all else
 unfoldable pub called : Limits → Call → List ℕ → List ℕ → Called
@@ -90,12 +88,12 @@ unfoldable pub assembled : Limits → List ℕ → ℕ
 assembled F state = held_length (shapes (stage_of F state)) + 4
 
 -- the answer r and the state, as it is at the end, are those of the call; begin and drop are lent nothing that they could write
-pub record Keeps (o : Called) (r : Reading) (st : List ℕ) : Type 0 where
+pub record Keeps (o : Called) (r : Answer ℕ) (st : List ℕ) : Type 0 where
   pub answer : r ≡ o.answer
   pub state : st ≡ o.state
 
 -- and so is the lent buffer
-pub record Meets (o : Called) (r : Reading) (st out : List ℕ) : Type 0 where
+pub record Meets (o : Called) (r : Answer ℕ) (st out : List ℕ) : Type 0 where
   pub answer : r ≡ o.answer
   pub state : st ≡ o.state
   pub buffer : out ≡ o.buffer

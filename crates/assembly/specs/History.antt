@@ -2,14 +2,12 @@
 -- In order: a state and a buffer; what a call makes of them, and a list of calls; the rule of a record; the rules that are added and not
 -- dropped; records of bytes; bytes that a history gives back.
 -- Assumes nothing.
-use Rattle.std.specs.Prelude.{ℕ, ◌-◌, ◌≡◌, List, [], ◌∷◌, ◌++◌, length, take, replicate}
+use Rattle.std.specs.Prelude.{ℕ, ◌-◌, ◌≡◌, List, [], ◌∷◌, ◌++◌, length, take, replicate, Ok, Err}
 use Rattle.buffer.specs.Bytes.{Bytes}
 use Rattle.literal.specs.declared.Limits.{Limits}
 use Rattle.semantics.specs.Rule.{Program}
 use Rattle.semantics.specs.Item.{rule, override, opposition}
-use Rattle.record.specs.declared.Reading.{Reading}
-use Rattle.record.specs.declared.Reading.TheVariants.{Count, Refused}
-use Rattle.record.specs.Result.{Result, accepted, refused}
+use Rattle.record.specs.Result.{Answer}
 use Rattle.record.specs.Reading.{Entry, item, end, rules_held, record_at}
 use Rattle.assembly.specs.State.{state_bytes}
 use Rattle.assembly.specs.Calls.{Call, begin, add, drop_last, close, Called, called}
@@ -32,21 +30,21 @@ run F [] s = s
 run F (c ∷ cs) s = run F cs (after F c s)
 
 -- the rule that a record is read as
-unfoldable pub rule_read : Result Entry → Program
-rule_read (accepted (item (rule r) size)) = r ∷ []
-rule_read (accepted (item (override o) size)) = []
-rule_read (accepted (item (opposition x) size)) = []
-rule_read (accepted end) = []
-rule_read (refused x) = []
+unfoldable pub rule_read : Answer Entry → Program
+rule_read (Ok (item (rule r) size)) = r ∷ []
+rule_read (Ok (item (override o) size)) = []
+rule_read (Ok (item (opposition x) size)) = []
+rule_read (Ok end) = []
+rule_read (Err x) = []
 
 -- the rules that are there behind a call, where p were before it: an accepted begin starts afresh, an accepted add has its record's rule
 -- behind them, an accepted drop takes the last
-unfoldable pub listed : Limits → Call → Reading → Program → Program
-listed F c (Refused x) p = p
-listed F begin (Count n) p = []
-listed F (add t) (Count n) p = p ++ rule_read (record_at F (rules_held (length p)) t)
-listed F drop_last (Count n) p = take (length p - 1) p
-listed F close (Count n) p = p
+unfoldable pub listed : Limits → Call → Answer ℕ → Program → Program
+listed F c (Err x) p = p
+listed F begin (Ok n) p = []
+listed F (add t) (Ok n) p = p ++ rule_read (record_at F (rules_held (length p)) t)
+listed F drop_last (Ok n) p = take (length p - 1) p
+listed F close (Ok n) p = p
 
 -- the rules added since the last accepted begin and not dropped, in order
 unfoldable pub rules_after : Limits → List Call → Session → Program → Program

@@ -1,11 +1,9 @@
 // The calls on a state in a lent slice. A slice of another length than a state's, and bytes that no call gives back, count as a state before the
 // first begin. No call looks at the lent buffer's bytes.
 
-ghost use Rattle.std.specs.Prelude.{◌+◌, ◌≤◌, ◌<◌, ◌≡◌, true, [], length};
+ghost use Rattle.std.specs.Prelude.{◌+◌, ◌≤◌, ◌<◌, ◌≡◌, true, [], length, Ok};
 ghost use Rattle.literal.specs.Limits.{source};
 ghost use Rattle.record.specs.Header.{head_count};
-ghost use Rattle.record.specs.Refusal.{refusal};
-ghost use Rattle.record.specs.Result.{accepted};
 ghost use Rattle.record.specs.Reading.{rule_only};
 ghost use Rattle.assembly.specs.State.{shape_of, heads_byte, stage_of};
 ghost use Rattle.assembly.specs.Calls.{begin, add, drop_last, close, called, assembled, Keeps, Meets};
@@ -16,17 +14,11 @@ use assembly_state::change::{open_state, put_shape};
 use assembly_state::inspect::inspect_source;
 use buffer::put::put_byte;
 use literal::form::Source;
-use record::{Reading, Reason, Refusal, Written};
+use record::refuse::refuse;
+use record::{Reason, Refusal};
 use record_rule::alone::read_rule;
 use record_write::copy::copy;
 use record_write::records::write_end;
-
-// A refusal at place 0.
-fn refuse(reason: Reason) -> Reading
-    ensures { result ≡ Reading.Refused (refusal reason 0) }
-{
-    Reading::Refused(Refusal { reason, place: 0 })
-}
 
 // The byte of a record's rule in the first row: a defeasible rule's is 127 more than its heads.
 fn heads_byte(rule: &[u8]) -> u8
@@ -47,10 +39,10 @@ fn hold_record(
     out: &mut [u8],
     held: Standing,
     size: usize,
-) -> Reading
+) -> Result<usize, Refusal>
     requires held_value { held ≡ standing_of (stage_of source state.old) }
     requires active_value { held.active ≡ true }
-    requires rule_value { rule_only source held.rules rule.now ≡ accepted size }
+    requires rule_value { rule_only source held.rules rule.now ≡ Ok size }
     ensures { Meets (called source (add rule.now) state.old out.old) result state.new out.new }
 {
     let bytes = held.bytes;
@@ -64,11 +56,11 @@ fn hold_record(
     let place = held.rules;
     let rules = place + 1;
     put_shape(Source::limits(), state, rules, place, heads, body);
-    Reading::Count(rules)
+    Ok(rules)
 }
 
 // Starts afresh, for a buffer that is lent to the calls that follow.
-pub fn begin_state(state: &mut [u8], out: &[u8]) -> Reading
+pub fn begin_state(state: &mut [u8], out: &[u8]) -> Result<usize, Refusal>
     ensures { Keeps (called source begin state.old out.now) result state.new }
 {
     let lim = Source::limits();
@@ -79,26 +71,23 @@ pub fn begin_state(state: &mut [u8], out: &[u8]) -> Reading
         return refuse(Reason::OutputShort);
     }
     open_state(lim, state);
-    Reading::Count(0)
+    Ok(0)
 }
 
 // Adds a rule's record behind those that are held.
-pub fn add_record(state: &mut [u8], rule: &[u8], out: &mut [u8]) -> Reading
+pub fn add_record(state: &mut [u8], rule: &[u8], out: &mut [u8]) -> Result<usize, Refusal>
     ensures { Meets (called source (add rule.now) state.old out.old) result state.new out.new }
 {
     let standing = inspect_source(state);
     if !standing.active {
         return refuse(Reason::OutOfTurn);
     }
-    let read = read_rule(Source::limits(), rule, standing.rules);
-    match read {
-        Written::Length(size) => hold_record(state, rule, out, standing, size),
-        Written::Refused(x) => Reading::Refused(x),
-    }
+    let size = read_rule(Source::limits(), rule, standing.rules)?;
+    hold_record(state, rule, out, standing, size)
 }
 
 // Drops the last rule.
-pub fn drop_last(state: &mut [u8]) -> Reading
+pub fn drop_last(state: &mut [u8]) -> Result<usize, Refusal>
     ensures { Keeps (called source drop_last state.old []) result state.new }
 {
     let standing = inspect_source(state);
@@ -111,11 +100,11 @@ pub fn drop_last(state: &mut [u8]) -> Reading
     }
     let left = rules - 1;
     put_shape(Source::limits(), state, left, left, 0, 0);
-    Reading::Count(left)
+    Ok(left)
 }
 
 // Writes the end record behind the rules.
-pub fn close_state(state: &mut [u8], out: &mut [u8]) -> Reading
+pub fn close_state(state: &mut [u8], out: &mut [u8]) -> Result<usize, Refusal>
     ensures { Meets (called source close state.old out.old) result state.new out.new }
 {
     let standing = inspect_source(state);
@@ -129,7 +118,7 @@ pub fn close_state(state: &mut [u8], out: &mut [u8]) -> Reading
     }
     write_end(rules as u16, out, bytes);
     put_byte(state, 0, 2);
-    Reading::Count(rules)
+    Ok(rules)
 }
 
 // The bytes of the rules held and an end record.

@@ -1,14 +1,11 @@
 -- How code tells what the two rows of a state say: sums and the largest figures alone.
--- In order: the larger of two; the head and the body literals of shapes; figures within the limits; zeros; what shapes come to.
+-- In order: the head and the body literals of shapes; figures within the limits; zeros; what shapes come to.
 -- Assumes nothing.
-use Rattle.std.specs.Prelude.{ℕ, ◌+◌, ◌-◌, ◌≡◌, Bool, cond, ◌&&◌, List, [], ◌∷◌, ltb, leb}
+use Rattle.std.specs.Prelude.{ℕ, ◌+◌, ◌-◌, ◌≡◌, Bool, ◌&&◌, List, [], ◌∷◌, leb}
 use Rattle.literal.specs.declared.Limits.{Limits}
 use Rattle.semantics.specs.Set.{each_of}
 use Rattle.assembly.specs.State.{Shape, keeps_shape, shapes_at, clear_at}
 use Rattle.assembly_state.specs.declared.Tally.{Tally}
-
-unfoldable pub larger : ℕ → ℕ → ℕ
-larger a b = cond (ltb a b) b a
 
 -- the literals of the rules with these shapes
 unfoldable pub heads_of : List Shape → ℕ

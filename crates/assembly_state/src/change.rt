@@ -1,29 +1,18 @@
 // The bytes of a state that a call changes.
 
-ghost use Rattle.std.specs.Prelude.{◌+◌, ◌*◌, ◌≤◌, ◌<◌, ◌≡◌, [], length, replicate};
+ghost use Rattle.std.specs.Prelude.{◌+◌, ◌*◌, ◌≤◌, ◌<◌, ◌≡◌, [], length};
 ghost use Rattle.assembly.specs.State.{opened, state_bytes, encoded_stage};
 ghost use Rattle.assembly.specs.Code.{with_shape};
 
 use buffer::put::{put_byte, put_number};
 use literal::Limits;
 
-// Zeros alone.
-fn clear(state: &mut [u8])
-    ensures { state.new ≡ replicate (length state.old) 0 }
-{
-    let mut at: usize = 0;
-    while at < state.len() {
-        state[at] = 0;
-        at += 1;
-    }
-}
-
 // An open assembly that holds no rule.
 pub fn open_state(lim: Limits, state: &mut [u8])
     requires { length state.old ≡ state_bytes lim }
     ensures { state.new ≡ encoded_stage lim (opened []) }
 {
-    clear(state);
+    state.fill(0);
     put_byte(state, 0, 1);
 }
 

@@ -5,9 +5,9 @@ ghost use Rattle.std.specs.Prelude.{◌+◌, ◌*◌, ◌/◌, ◌%◌, ◌≤�
 ghost use Rattle.literal.specs.Limits.{source};
 ghost use Rattle.assembly.specs.State.{before, is_headed, stage_of};
 ghost use Rattle.assembly.specs.Code.{Assemblable, standing_of};
-ghost use Rattle.assembly_state.specs.Code.{larger, within, clear_behind, Tallied};
+ghost use Rattle.assembly_state.specs.Code.{within, clear_behind, Tallied};
 
-use crate::{Figures, Tally};
+use crate::Tally;
 use assembly::Standing;
 use buffer::get::get_number;
 use literal::Limits;
@@ -40,13 +40,6 @@ fn is_headed(lim: Limits, state: &[u8]) -> bool
     rules as usize <= lim.rules
 }
 
-// The larger of two figures.
-fn pick_larger(a: u8, b: u8) -> u8
-    ensures { result ≡ larger a b }
-{
-    if a < b { b } else { a }
-}
-
 // The head literals of a rule, by its byte in the first row.
 fn count_heads(b: u8) -> u8
     ensures { result ≡ b % 128 + b / 128 }
@@ -61,32 +54,14 @@ fn tally_shapes(lim: Limits, state: &[u8], rules: usize) -> Tally
     requires rules_in_bounds { 8 + 2 * lim.rules ≤ length state.now }
     ensures { Tallied lim state.now rules result }
 {
-    let mut most_heads: u8 = 0;
-    let mut most_body: u8 = 0;
-    let mut heads: u16 = 0;
-    let mut body: u16 = 0;
-    let mut at: usize = 8;
-    let mut left = rules;
-    while 0 < left {
-        let h = count_heads(state[at]);
-        let b = state[at + lim.rules];
-        most_heads = pick_larger(most_heads, h);
-        most_body = pick_larger(most_body, b);
-        heads += h as u16;
-        body += b as u16;
-        at += 1;
-        left -= 1;
+    let mut shapes = Tally::default();
+    for i in 0..rules {
+        let h = count_heads(state[8 + i]);
+        let b = state[8 + i + lim.rules];
+        shapes.heads.add(h);
+        shapes.body.add(b);
     }
-    Tally {
-        heads: Figures {
-            most: most_heads,
-            sum: heads,
-        },
-        body: Figures {
-            most: most_body,
-            sum: body,
-        },
-    }
+    shapes
 }
 
 // Whether nothing but zeros stands behind so many rules, in both rows.
@@ -97,13 +72,9 @@ fn is_clear_behind(lim: Limits, state: &[u8], rules: usize) -> bool
     ensures { result ≡ clear_behind lim state.now rules }
 {
     let mut most: u8 = 0;
-    let mut at = 8 + rules;
-    let mut left = lim.rules - rules;
-    while 0 < left {
-        let larger = pick_larger(state[at], state[at + lim.rules]);
-        most = pick_larger(most, larger);
-        at += 1;
-        left -= 1;
+    for i in rules..lim.rules {
+        let larger = state[8 + i].max(state[8 + i + lim.rules]);
+        most = most.max(larger);
     }
     most == 0
 }

@@ -2,7 +2,7 @@
 
 #![tactic(auto)]
 
-use record::Reading;
+use record::Refusal;
 
 // An assembly's state. All zero is a state before the first begin, and so count bytes that no call gives back.
 #[derive(Clone, Copy)]
@@ -13,7 +13,7 @@ pub struct Assembly {
 // What a call answers, the number of rules then held or a refusal, and the state then.
 #[derive(Clone, Copy)]
 pub struct Assembled {
-    pub answer: Reading,
+    pub answer: Result<usize, Refusal>,
     pub state: Assembly,
 }
 

@@ -15,23 +15,13 @@ pub fn put_number(out: &mut [u8], at: usize, n: u16)
     requires { at + 2 ≤ length out.old }
     ensures { out.new ≡ write out.old at (two_bytes n) }
 {
-    let high = n / 256;
-    let low = n % 256;
-    out[at] = high as u8;
-    out[at + 1] = low as u8;
+    out[at..at + 2].copy_from_slice(&n.to_be_bytes());
 }
 
-// Bytes of one number, each behind the other, the lowest first, are one store.
+// The lowest byte first.
 pub fn put_eight(out: &mut [u8], at: usize, v: u64)
     requires { at + 8 ≤ length out.old }
     ensures { out.new ≡ write out.old at (eight_bytes v) }
 {
-    out[at] = (v % 256) as u8;
-    out[at + 1] = (v / 256 % 256) as u8;
-    out[at + 2] = (v / 65536 % 256) as u8;
-    out[at + 3] = (v / 16777216 % 256) as u8;
-    out[at + 4] = (v / 4294967296 % 256) as u8;
-    out[at + 5] = (v / 1099511627776 % 256) as u8;
-    out[at + 6] = (v / 281474976710656 % 256) as u8;
-    out[at + 7] = (v / 72057594037927936 % 256) as u8;
+    out[at..at + 8].copy_from_slice(&v.to_le_bytes());
 }

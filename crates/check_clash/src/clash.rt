@@ -1,15 +1,14 @@
 // The first literal of a set whose opposite is in the set.
 
-ghost use Rattle.std.specs.Prelude.{◌+◌, ◌*◌, ◌≤◌, ◌≡◌, length};
+ghost use Rattle.std.specs.Prelude.{◌≤◌, ◌≡◌, length};
 ghost use Rattle.literal.specs.Literal.{opposite};
-ghost use Rattle.set.specs.Code.{Ascends};
 ghost use Rattle.check_clash.specs.Code.{opposed_in, clash_at};
 
 use literal::{Literal, SignedAtom};
 use literal_decode::sign::sign;
 use literal_fields::field::get_atom;
 use literal_fields::order::key_of;
-use set::search::holds;
+use set::members::Members;
 
 // The atom with the other sign.
 fn oppose(a: SignedAtom) -> SignedAtom
@@ -23,11 +22,9 @@ fn oppose(a: SignedAtom) -> SignedAtom
 
 // Whether the opposite of the literal at the start of `t` is in the set. Kinds 0 and 1 are each other's opposite, marks
 // have none.
-fn is_opposed(set: &[u8], n: usize, t: &[u8]) -> bool
-    requires n_in_bounds { 4 + 5 * n ≤ length set.now }
-    requires ascends { Ascends set.now n }
-    requires in_bounds { 5 ≤ length t.now }
-    ensures { result ≡ opposed_in set.now n t.now }
+fn is_opposed(set: Members, t: &[u8]) -> bool
+    requires { 5 ≤ length t.now }
+    ensures { result ≡ opposed_in set.entry.bytes.now set.entry.count t.now }
 {
     let kind = t[0];
     if 1 < kind {
@@ -35,23 +32,17 @@ fn is_opposed(set: &[u8], n: usize, t: &[u8]) -> bool
     }
     let atom = sign(kind, get_atom(t, 3));
     let opposite = Literal::Signed(oppose(atom));
-    holds(set, n, key_of(opposite))
+    set.has_key(key_of(opposite))
 }
 
-// The position, from 1, of the first of the set's `n` literals whose opposite is in the set; 0 where there is none.
-pub fn find_clash(set: &[u8], n: usize) -> usize
-    requires n_in_bounds { 4 + 5 * n ≤ length set.now }
-    requires ascends { Ascends set.now n }
-    ensures { result ≡ clash_at set.now n 1 4 n }
+// The position, from 1, of the first of the set's literals whose opposite is in the set.
+pub fn find_clash(set: Members) -> Option<usize>
+    ensures { result ≡ clash_at set.entry.bytes.now set.entry.count 1 4 set.entry.count }
 {
-    let mut at: usize = 4;
-    let mut k: usize = 1;
-    while k <= n {
-        if is_opposed(set, n, &set[at..]) {
-            return k;
+    for i in 0..set.count {
+        if is_opposed(set, &set.bytes[4 + 5 * i..]) {
+            return Some(1 + i);
         }
-        at += 5;
-        k += 1;
     }
-    0
+    None
 }

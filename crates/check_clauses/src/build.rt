@@ -1,55 +1,30 @@
-// Building: one pass over a program's records. Each clause is written behind the last; of a rule without a clause what is
-// written is written over.
+// Building: one pass over a program's records. Each clause is written behind the last.
 
-ghost use Rattle.std.specs.Prelude.{◌+◌, ◌*◌, ◌≤◌, ◌≡◌, length};
+ghost use Rattle.std.specs.Prelude.{length};
 ghost use Rattle.record_walk.specs.Code.{Holds};
-ghost use Rattle.set.specs.Code.{Ascends};
-ghost use Rattle.check_clauses.specs.Code.{Clausable, is_broken, Clauses};
+ghost use Rattle.check_clauses.specs.Code.{Clausable, Clauses};
 
+use crate::masks::Positions;
 use crate::rule::clause_of;
-use crate::{Built, Clause};
+use check_force::Clause;
 use literal::RuleNo;
-use record_walk::size::record_size;
+use record_walk::records::Records;
 
-// Whether there is a clause that does not hold in the whole set.
-fn is_broken(c: Clause) -> bool
-    ensures { result ≡ is_broken c }
+// The clauses of the program's rules over the positions of the set's literals: how many there are, or the first rule that is broken,
+// whose clause does not hold in the whole set.
+pub fn build(s: &[u8], set: Positions, clauses: &mut [Clause]) -> Result<usize, RuleNo>
+    requires { Holds (Clausable (length clauses.old)) s.now }
+    ensures { Clauses s.now set.entry.set.bytes.now set.entry.set.count result clauses.new }
 {
-    if c.count == 0 {
-        return false;
-    }
-    c.head == 0
-}
-
-// The clauses of the program's rules over the positions of the set's `n` literals, up to the first rule that is broken.
-pub fn build(s: &[u8], set: &[u8], n: usize, bodies: &mut [u64], heads: &mut [u64]) -> Built
-    requires holds { Holds (Clausable (length bodies.old) (length heads.old)) s.now }
-    requires n_in_bounds { 4 + 5 * n ≤ length set.now }
-    requires ascends { Ascends set.now n }
-    requires n_bound { n ≤ 64 }
-    ensures { Clauses s.now set.now n result bodies.new heads.new }
-{
-    let mut at: usize = 0;
-    let mut number: u16 = 1;
     let mut count: usize = 0;
-    while s[at] != b'E' {
-        let part = &s[at..];
-        let c = clause_of(part, set, n);
-        if is_broken(c) {
-            return Built {
-                broken: RuleNo(number),
-                count: 0,
-            };
+    for (i, part) in Records::new(s).enumerate() {
+        if let Some(c) = clause_of(part, set) {
+            if c.head == 0 {
+                return Err(RuleNo(i as u16 + 1));
+            }
+            clauses[count] = c;
+            count += 1;
         }
-        let kept = c.count;
-        bodies[count] = c.body;
-        heads[count] = c.head;
-        count += kept;
-        at += record_size(part);
-        number += 1;
     }
-    Built {
-        broken: RuleNo(0),
-        count,
-    }
+    Ok(count)
 }

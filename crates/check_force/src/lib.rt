@@ -4,10 +4,16 @@
 
 pub mod force;
 
-// What a mask must have, and what it may have. Where it is not live, no mask that is sought lies between them.
+// What is left of a rule, over the positions of a set: in a mask with each position of the body stands one of the head.
+#[derive(Clone, Copy)]
+pub struct Clause {
+    pub body: u64,
+    pub head: u64,
+}
+
+// What a mask must have, and what it may have.
 #[derive(Clone, Copy)]
 pub struct Bounds {
-    pub live: bool,
     pub must: u64,
     pub may: u64,
 }

@@ -7,7 +7,7 @@ pub mod pick;
 
 // How often each position stood in the masks that were added, for all positions at once: a position's digits in d7 to d0
 // are its count, modulo 256.
-#[derive(Clone, Copy)]
+#[derive(Clone, Copy, Default)]
 pub struct Tally {
     pub d0: u64,
     pub d1: u64,

@@ -3,10 +3,3 @@
 #![tactic(auto)]
 
 pub mod find;
-
-// The first smaller model, if there is one.
-#[derive(Clone, Copy)]
-pub struct Found {
-    pub found: bool,
-    pub model: u64,
-}

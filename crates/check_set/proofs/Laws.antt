@@ -1,8 +1,6 @@
-pub mod Decide
 pub mod Distinct
 pub mod Finding
 pub mod Meant
-pub mod Built
 pub mod Judge
 pub mod Found
 pub mod Check

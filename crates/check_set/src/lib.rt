@@ -3,7 +3,6 @@
 #![tactic(auto)]
 
 use literal::RuleNo;
-use record::Refusal;
 
 // What a check finds. A smaller model stands as an A: record at the start of the lent output.
 #[derive(Clone, Copy)]
@@ -15,13 +14,6 @@ pub enum Verdict {
     // The length in bytes of the first smaller model's record.
     Smaller(usize),
     Yes,
-}
-
-// What checking a set answers.
-#[derive(Clone, Copy)]
-pub enum Check {
-    Found(Verdict),
-    Refused(Refusal),
 }
 
 mod decide;

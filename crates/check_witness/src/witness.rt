@@ -23,22 +23,19 @@ fn copy_picked(set: &[u8], at: usize, model: u64, i: u32, out: &mut [u8], to: us
     5
 }
 
-// The record of those of the set's `n` literals whose positions are in the mask, at the start of `out`; answers its
-// length. The number of literals is known last and written last.
+// The record of those of the set's `n` literals whose positions are in the mask, at the start of `out`; answers its length. The number of
+// literals is known last and written last. The set need not ascend here, so it comes as a slice and a count.
 pub fn write_picked(set: &[u8], n: usize, model: u64, out: &mut [u8]) -> usize
-    requires n_in_bounds { 4 + 5 * n ≤ length set.now }
-    requires n_in_bounds_2 { 4 + 5 * n ≤ length out.old }
-    requires n_bound { n ≤ 64 }
+    requires set_in_bounds { 4 + 5 * n ≤ length set.now }
+    requires out_in_bounds { 4 + 5 * n ≤ length out.old }
+    requires few { n ≤ 64 }
     ensures size { result ≡ length (picked_record model set.now n) }
     ensures bytes { out.new ≡ write out.old 0 (picked_record model set.now n) }
 {
-    let mut at: usize = 4;
     let mut to: usize = 4;
-    let mut left = n;
-    while 0 < left {
-        left -= 1;
-        to += copy_picked(set, at, model, left as u32, out, to);
-        at += 5;
+    for i in 0..n {
+        let position = (n - 1 - i) as u32;
+        to += copy_picked(set, 4 + 5 * i, model, position, out, to);
     }
     let count = (to - 4) / 5;
     write_set_header(count as u16, out);

@@ -38,17 +38,13 @@ fn pack_four(n: u32) -> u32
     pairs * 256 - tens * 2559 + 0x30303030
 }
 
-// Four figures, with zeros before a number that has fewer. Bytes of one number, each behind the other, are one store.
+// Four figures, with zeros before a number that has fewer, in one store.
 fn write_four(n: u32, out: &mut [u8], at: usize)
     requires n_bound { n < 10000 }
     requires at_in_bounds { at + 4 ≤ length out.old }
     ensures { out.new ≡ write out.old at (four_figures n) }
 {
-    let packed = pack_four(n);
-    out[at] = (packed % 256) as u8;
-    out[at + 1] = (packed / 256 % 256) as u8;
-    out[at + 2] = (packed / 65536 % 256) as u8;
-    out[at + 3] = (packed / 16777216) as u8;
+    out[at..at + 4].copy_from_slice(&pack_four(n).to_le_bytes());
 }
 
 // The decimal of a number of four or five figures; where it ends. The first of five is always stored: of four, the others are stored
@@ -93,13 +89,10 @@ fn write_many(n: u32, out: &mut [u8], at: usize) -> usize
 {
     let end = at + count_figures(n);
     let mut left = n;
-    let mut to = end - 1;
-    while left >= 10 {
+    for to in (at..end).rev() {
         out[to] = b'0' + (left % 10) as u8;
-        to -= 1;
         left /= 10;
     }
-    out[to] = b'0' + left as u8;
     end
 }
 

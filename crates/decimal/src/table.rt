@@ -10,29 +10,34 @@ pub fn fill_table(table: &mut [u32])
     requires { length table.old ≡ 1000 }
     ensures { Figures table.new }
 {
-    let mut k: u32 = 0;
-    let mut i: usize = 0;
-    while i < table.len() {
+    for (k, entry) in table.iter_mut().enumerate() {
+        let k = k as u32;
         let many = 1 + (k >= 10) as u32 + (k >= 100) as u32;
-        table[i] = 0x303030 + k / 100 + k / 10 % 10 * 256 + k % 10 * 65536 + many * 16777216;
-        k += 1;
-        i += 1;
+        *entry = 0x303030 + k / 100 + k / 10 % 10 * 256 + k % 10 * 65536 + many * 16777216;
     }
 }
 
-// The decimal of a number below a million in one number: its figures, the first in the lowest byte, and in the highest byte how many
-// there are.
-pub fn pack_decimal(n: u32, table: &[u32]) -> u64
-    requires n_bound { n < 1000000 }
-    requires figures { Figures table.now }
-    ensures { result ≡ joined (decimal n) + 72057594037927936 * length (decimal n) }
-{
-    let high = table[(n / 1000) as usize];
-    let low = table[(n % 1000) as usize];
-    let mut many = 3 + high / 16777216;
-    if n < 1000 {
-        many = low / 16777216;
+// A table that is filled in.
+#[derive(Clone, Copy)]
+pub struct Table<'a> {
+    pub entries: &'a [u32],
+    pub ghost figures: { Figures entries.now },
+}
+
+impl Table<'_> {
+    // The decimal of a number below a million in one number: its figures, the first in the lowest byte, and in the highest byte how many
+    // there are.
+    pub fn pack_decimal(self, n: u32) -> u64
+        requires { n < 1000000 }
+        ensures { result ≡ joined (decimal n) + 72057594037927936 * length (decimal n) }
+    {
+        let high = self.entries[(n / 1000) as usize];
+        let low = self.entries[(n % 1000) as usize];
+        let mut many = 3 + high / 16777216;
+        if n < 1000 {
+            many = low / 16777216;
+        }
+        let x = (low % 16777216) as u64 * 16777216 + (high % 16777216) as u64;
+        (x >> (48 - 8 * many)) + many as u64 * 72057594037927936
     }
-    let x = (low % 16777216) as u64 * 16777216 + (high % 16777216) as u64;
-    (x >> (48 - 8 * many)) + many as u64 * 72057594037927936
 }

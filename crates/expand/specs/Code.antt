@@ -1,15 +1,17 @@
 -- A source's normal form (02, Ask 2: "all meanings now read the expanded program"): its rules and those that its sheets append, as a program
 -- without sheets.
 -- In order: items that can be expanded; forms whose files can be, in an array of our own; items of which something is asked besides; the
--- arrays that it takes; the rules with the tables of the sheets; the normal form.
+-- arrays that it takes; the rules with the tables of the sheets; the normal form, and what goes on with it.
 -- Assumes nothing.
 use Rattle.std.specs.Prelude.{ℕ, ◌+◌, ◌*◌, ◌≤◌, ◌<◌, ◌≡◌, List, [], T, length, get_or, take}
+use Rattle.std.specs.Borrow.{Bor, MutBor}
 use Rattle.buffer.specs.Write.{Wrote}
 use Rattle.literal.specs.declared.Limits.{Limits}
 use Rattle.semantics.specs.Rule.{Program}
 use Rattle.semantics.specs.Item.{Item, rules, overrides, oppositions, expanded}
 use Rattle.semantics.specs.Form.{keeps_items, most_appended}
 use Rattle.record.specs.Layout.{encoded_rules, encoded_program}
+use Rattle.record_walk.specs.Code.{HoldsFile}
 use Rattle.expand_tables.specs.Added.{each_pair}
 use Rattle.expand_tables.specs.Code.{tag_places, option_places, sheet_places, Tables, Pairs}
 use Rattle.expand_collect.specs.Code.{State}
@@ -84,3 +86,17 @@ pub record Normal (d : List ℕ) (is : List Item) (r : ℕ) (e : List ℕ) : Typ
   pub size : r ≡ length (encoded_program (expanded is))
   pub same : length e ≡ length d
   pub bytes : take r e ≡ encoded_program (expanded is)
+
+-- t is the program that the file in s means
+abbrev pub NormalOf : List ℕ → List ℕ → Type 0
+NormalOf s t = (w : HoldsFile (Expandable normal_bytes) s) → t ≡ encoded_program (expanded w.items)
+
+-- of the normal form of s, and of a buffer that was `out` and is `end`, a call with this `post` made r
+pub record Went {R : Type 0} (post : Bor (List ℕ) → MutBor (List ℕ) → R → MutBor (List ℕ) → Type 0) (s out : List ℕ) (r : R) (end : List ℕ) : Type 0 where
+  pub normal : Bor (List ℕ)
+  pub lent : MutBor (List ℕ)
+  pub left : MutBor (List ℕ)
+  pub means : NormalOf s normal.now
+  pub came : lent.now ≡ out
+  pub called : post normal lent r left
+  pub gone : left.now ≡ end

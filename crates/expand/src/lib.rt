@@ -10,6 +10,7 @@ pub struct Made {
 }
 
 pub mod normal;
+pub mod with;
 
 // So many bytes are enough for the normal form of any source: its own, and 17 for each of 8,192 rules.
 pub const NORMAL: usize = 203652;

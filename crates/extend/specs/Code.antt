@@ -2,12 +2,12 @@
 -- In order: limits for which an extension is made; a file and a set whose extension can be written; the extension, delivered; a set's
 -- literals with marks behind them.
 -- Assumes nothing.
-use Rattle.std.specs.Prelude.{ℕ, ◌+◌, ◌*◌, ◌≤◌, ◌<◌, ◌≡◌, List, ◌++◌, length, take, drop}
+use Rattle.std.specs.Prelude.{ℕ, ◌+◌, ◌*◌, ◌≤◌, ◌<◌, ◌≡◌, List, ◌++◌, length, take, drop, Ok}
 use Rattle.literal.specs.declared.Limits.{Limits}
 use Rattle.literal.specs.declared.Literal.{Literal}
 use Rattle.semantics.specs.Rule.{Program}
 use Rattle.semantics.specs.Form.{most_appended, TakesDefeats}
-use Rattle.record.specs.Result.{accepted, Outcome, delivered}
+use Rattle.record.specs.Result.{Outcome, delivered}
 use Rattle.record_walk.specs.Code.{HoldsFile}
 use Rattle.set.specs.Layout.{encoded_set}
 use Rattle.set.specs.Reading.{parsed_set}
@@ -36,13 +36,13 @@ pub record Extending (s k : List ℕ) (n : ℕ) : Type 0 where
   pub form : Limits
   pub upto : ℕ
   pub literals : List Literal
-  pub members : parsed_set form upto k ≡ accepted literals
+  pub members : parsed_set form upto k ≡ Ok literals
   pub counted : n ≡ length literals
   pub total : n + most < 65536
 
 -- the extension of a list of literals for a program, delivered
 abbrev pub extension_of : Program → List Literal → List ℕ → Outcome
-extension_of p ls out = delivered (accepted (encoded_set (extension_list p ls))) out
+extension_of p ls out = delivered (Ok (encoded_set (extension_list p ls))) out
 
 -- the A: record of the first literals of the set in k, and of n marks behind them, given as keys
 unfoldable pub joined : List ℕ → ℕ → List ℕ → ℕ → List ℕ

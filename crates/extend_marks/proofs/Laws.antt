@@ -8,4 +8,3 @@ pub mod Agree
 pub mod Marks
 pub mod Members
 pub mod Rule
-pub mod Sheet

@@ -1,11 +1,11 @@
 -- How code collects marks: as keys in a slice, behind those that stand there.
--- In order: keys that a slice gained; the marks that rules add at most; a program whose marks are collected, and a file; the bytes of a
--- sheet record; room for the marks of a record.
+-- In order: keys that a slice gained; the marks that rules add at most; a program whose marks are collected, and a file; room
+-- for the marks of a record.
 -- Assumes nothing.
-use Rattle.std.specs.Prelude.{ℕ, ◌+◌, ◌≤◌, ◌<◌, max, ◌≡◌, cond, List, [], ◌∷◌, ◌++◌, eqb, length, take}
+use Rattle.std.specs.Prelude.{ℕ, ◌+◌, ◌≤◌, ◌<◌, max, ◌≡◌, List, [], ◌∷◌, ◌++◌, length, take}
 use Rattle.semantics.specs.Rule.{Rule, strict, defeasible, Program}
 use Rattle.semantics.specs.Item.{Item, rules}
-use Rattle.record.specs.Header.{defeasible_letter, override_letter, opposition_letter, letter_of, head_count}
+use Rattle.record.specs.Header.{defeasible_letter, letter_of, head_count}
 
 -- a slice d became e, as long: behind its first n keys it gained r, which are ks. Behind those stands anything
 pub record Gained (d e : List ℕ) (n r : ℕ) (ks : List ℕ) : Type 0 where
@@ -30,10 +30,6 @@ pub record Markable (room : ℕ) (p : Program) : Type 0 where
 -- a file whose written rules are such a program: those that its sheets append add no mark
 abbrev pub MarkableFile : ℕ → List Item → Type 0
 MarkableFile room is = Markable room (rules is)
-
--- the bytes of the sheet record that starts with this letter; 0 for a rule's letter, whose record has no fixed size
-unfoldable pub sheet_size : ℕ → ℕ
-sheet_size letter = cond (eqb letter override_letter) 6 (cond (eqb letter opposition_letter) 12 0)
 
 -- behind n keys, `room` keys are enough for the marks of the rule whose record starts t
 abbrev pub Roomy : List ℕ → ℕ → ℕ → Type 0

@@ -14,6 +14,7 @@ fn read_full<R: Read>(from: &mut R, buf: &mut [u8]) -> io::Result<usize>
     ensures { IfOk result (λ n. n ≤ length buf.new) }
 {
     let mut done = 0;
+    // No count: each read says how much came.
     while done < buf.len() {
         let n = from.read(&mut buf[done..])?;
         if n == 0 {

@@ -1,10 +1,9 @@
 -- The filter program (01, "The filter program"): what it writes to standard output for what it reads.
 -- In order: its buffers; what it writes of an outcome; the filter; what its function promises.
 -- Assumes nothing.
-use Rattle.std.specs.Prelude.{ℕ, ◌+◌, ◌≤◌, ◌≡◌, List, length, take, replicate}
+use Rattle.std.specs.Prelude.{ℕ, ◌+◌, ◌≤◌, ◌≡◌, List, length, take, replicate, Ok, Err}
 use Rattle.buffer.specs.Write.{write}
 use Rattle.literal.specs.Limits.{source}
-use Rattle.record.specs.declared.Written.TheVariants.{Length, Refused}
 use Rattle.record.specs.Refusal.{encoded_refusal}
 use Rattle.record.specs.Result.{Outcome}
 use Rattle.translate.specs.Translate.{translated}
@@ -20,8 +19,8 @@ output_size = 65536
 unfoldable pub printed : Outcome → List ℕ
 printed o =
     elim o.answer [
-      | Length n ↦ take n o.buffer
-      | Refused x ↦ encoded_refusal x
+      | Ok n ↦ take n o.buffer
+      | Err x ↦ encoded_refusal x
     ]
 
 -- standard output for standard input

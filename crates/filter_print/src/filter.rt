@@ -4,7 +4,6 @@ ghost use Rattle.std.specs.Prelude.{◌≤◌, ◌≡◌, length, take};
 ghost use Rattle.filter_print.specs.Filter.{input_size, output_size, filtered, Prints};
 
 use literal::form::Source;
-use record::Written;
 use record_write::refusal::write_refusal;
 use translate::translate::translate_source;
 
@@ -22,10 +21,9 @@ pub fn filter_translate(input: &[u8], got: usize, out: &mut [u8]) -> usize
     requires out_len { length out.old ≡ output_size }
     ensures { Prints (filtered (take got input.now)) out.old result out.new }
 {
-    let answer = translate_source(&input[..got], out);
-    match answer {
-        Written::Length(n) => n,
-        Written::Refused(x) => {
+    match translate_source(&input[..got], out) {
+        Ok(n) => n,
+        Err(x) => {
             write_refusal(x, out);
             7
         }

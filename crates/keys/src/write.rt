@@ -1,6 +1,6 @@
 // Keys written as the literals that they are.
 
-ghost use Rattle.std.specs.Prelude.{◌+◌, ◌*◌, ◌≤◌, ◌<◌, ◌≡◌, length, take};
+ghost use Rattle.std.specs.Prelude.{◌+◌, ◌*◌, ◌≤◌, ◌<◌, ◌≡◌, length};
 ghost use Rattle.buffer.specs.Write.{write};
 ghost use Rattle.keys.specs.Code.{bytes_of, key_bytes, Fitting};
 
@@ -20,18 +20,13 @@ fn write_key(key: u64, out: &mut [u8], at: usize)
     put_number(out, at + 3, atom as u16);
 }
 
-// The first keys of a slice, as literals one behind the other.
-pub fn write_keys(keys: &[u64], count: usize, out: &mut [u8], to: usize)
-    requires count_in_bounds { count ≤ length keys.now }
-    requires count_in_bounds_2 { to + 5 * count ≤ length out.old }
-    requires fitting { Fitting (take count keys.now) }
-    ensures { out.new ≡ write out.old to (key_bytes (take count keys.now)) }
+// Keys, as literals one behind the other.
+pub fn write_keys(keys: &[u64], out: &mut [u8], to: usize)
+    requires keys_in_bounds { to + 5 * length keys.now ≤ length out.old }
+    requires fitting { Fitting keys.now }
+    ensures { out.new ≡ write out.old to (key_bytes keys.now) }
 {
-    let mut at: usize = 0;
-    let mut next = to;
-    while at < count {
-        write_key(keys[at], out, next);
-        at += 1;
-        next += 5;
+    for (i, key) in keys.iter().enumerate() {
+        write_key(*key, out, to + 5 * i);
     }
 }

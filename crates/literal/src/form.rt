@@ -1,4 +1,5 @@
-// The two forms of programs. Each owns its row of limits.
+// The two forms of programs. Each owns its row of limits: document 01 names the constants as the form's own. One trait for both would not
+// do, since no function but the entry points knows the form by its type: they pass the row on.
 
 ghost use Rattle.std.specs.Prelude.{◌≡◌};
 ghost use Rattle.literal.specs.Limits.{plain, source};

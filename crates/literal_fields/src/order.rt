@@ -4,7 +4,7 @@ ghost use Rattle.std.specs.Prelude.{◌≤◌, ◌≡◌, length};
 ghost use Rattle.literal.specs.Order.{key, key_of};
 ghost use Rattle.literal.specs.Code.{key_at};
 
-use crate::field::{fields_at, fields_of};
+use crate::field::fields_of;
 use literal::{Fields, Literal};
 
 // Three fields as one number.
@@ -27,5 +27,5 @@ pub fn key_at(s: &[u8]) -> u64
     requires { 5 ≤ length s.now }
     ensures { result ≡ key_at s.now }
 {
-    make_key(fields_at(s))
+    u64::from_be_bytes([0, 0, 0, s[0], s[1], s[2], s[3], s[4]])
 }

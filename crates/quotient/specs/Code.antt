@@ -1,22 +1,19 @@
 -- What the writers of a quotient speak of (01, "Quotient").
 -- In order: the quotient, as bytes; limits for which a quotient is made; what the passes ask of a program; a program and a set whose
--- quotient can be written, and a file and a set; the quotient, delivered; a file with sheets or a program, and what is answered of it.
+-- quotient can be written, and a file and a set; the quotient, delivered.
 -- Not here: what is left of a record, by its bytes (`quotient_rule`).
 -- Assumes nothing.
-use Rattle.std.specs.Prelude.{ℕ, ◌+◌, ◌≤◌, ◌<◌, ◌≡◌, Bool, true, false, List, map, length}
+use Rattle.std.specs.Prelude.{ℕ, ◌+◌, ◌≤◌, ◌<◌, ◌≡◌, List, map, length, Ok}
 use Rattle.literal.specs.declared.Limits.{Limits}
 use Rattle.literal.specs.declared.Literal.{Literal}
 use Rattle.semantics.specs.Set.{LiteralSet}
 use Rattle.semantics.specs.Rule.{Program}
-use Rattle.semantics.specs.Item.{expanded}
 use Rattle.semantics.specs.Meaning.{quotient}
 use Rattle.semantics.specs.Form.{most_appended}
-use Rattle.record.specs.declared.Written.{Written}
-use Rattle.record.specs.Result.{accepted, Outcome, delivered}
+use Rattle.record.specs.Result.{Outcome, delivered}
 use Rattle.record.specs.Layout.{encoded_program}
-use Rattle.record.specs.Meets.{Meets}
 use Rattle.record_walk.specs.Code.{Holds, HoldsFile}
-use Rattle.expand.specs.Code.{normal_bytes, Meaning}
+use Rattle.expand.specs.Code.{Meaning}
 use Rattle.set.specs.Reading.{parsed_set}
 use Rattle.quotient.specs.Quotient.{remainder_rule, quotient_program}
 
@@ -43,7 +40,7 @@ pub record Dividing (s k : List ℕ) (n : ℕ) : Type 0 where
   pub form : Limits
   pub upto : ℕ
   pub literals : List Literal
-  pub members : parsed_set form upto k ≡ accepted literals
+  pub members : parsed_set form upto k ≡ Ok literals
   pub counted : n ≡ length literals
 
 -- s holds a file whose program has fewer rules than two bytes count, with `most` bytes for its normal form, and k a set of n literals
@@ -52,19 +49,9 @@ pub record DividingFile (most : ℕ) (s k : List ℕ) (n : ℕ) : Type 0 where
   pub form : Limits
   pub upto : ℕ
   pub literals : List Literal
-  pub members : parsed_set form upto k ≡ accepted literals
+  pub members : parsed_set form upto k ≡ Ok literals
   pub counted : n ≡ length literals
 
 -- the quotient of a program by the set of a list, delivered
 abbrev pub delivered_quotient : Program → List Literal → List ℕ → Outcome
-delivered_quotient p ls out = delivered (accepted (encoded_program (quotient_program p ls))) out
-
--- s holds a file with sheets, with an array of our own for its normal form, or a program; and either can be divided by the set in k
-abbrev pub Given : Bool → List ℕ → List ℕ → ℕ → Type 0
-Given true s k n = DividingFile normal_bytes s k n
-Given false s k n = Dividing s k n
-
--- the answer r and the buffer, as it is at the end, are those of the program that either means
-abbrev pub Answered : Bool → List ℕ → List ℕ → ℕ → List ℕ → Written → List ℕ → Type 0
-Answered true s k n out r end = (w : DividingFile normal_bytes s k n) → Meets (delivered_quotient (expanded w.file.items) w.literals out) r end
-Answered false s k n out r end = (w : Dividing s k n) → Meets (delivered_quotient w.program.program w.literals out) r end
+delivered_quotient p ls out = delivered (Ok (encoded_program (quotient_program p ls))) out

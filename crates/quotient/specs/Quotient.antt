@@ -1,12 +1,12 @@
 -- The quotient as bytes (01, "Quotient"), in either form: the program's refusals, then the set's, then 9.
 -- Assumes nothing.
-use Rattle.std.specs.Prelude.{ℕ, List, [], map}
+use Rattle.std.specs.Prelude.{ℕ, List, [], map, Ok}
 use Rattle.literal.specs.declared.Limits.{Limits}
 use Rattle.literal.specs.declared.Literal.{Literal}
 use Rattle.semantics.specs.Set.{set_of}
 use Rattle.semantics.specs.Rule.{Rule, strict, Program, Remainder}
 use Rattle.semantics.specs.Meaning.{quotient}
-use Rattle.record.specs.Result.{Result, accepted, Outcome, delivered}
+use Rattle.record.specs.Result.{Answer, Outcome, delivered}
 use Rattle.record.specs.Layout.{encoded_program}
 use Rattle.inputs.specs.Inputs.{with_inputs}
 
@@ -19,8 +19,8 @@ unfoldable pub quotient_program : Program → List Literal → Program
 quotient_program p ls = map remainder_rule (quotient p (set_of ls))
 
 -- S: records with tag 0 in rule order, and an end record that counts them
-unfoldable pub quotient_bytes : Limits → List ℕ → List ℕ → Result (List ℕ)
-quotient_bytes F s k = with_inputs F F.literals s k (λ p ls. accepted (encoded_program (quotient_program p ls)))
+unfoldable pub quotient_bytes : Limits → List ℕ → List ℕ → Answer (List ℕ)
+quotient_bytes F s k = with_inputs F F.literals s k (λ p ls. Ok (encoded_program (quotient_program p ls)))
 
 unfoldable pub quotiented : Limits → List ℕ → List ℕ → List ℕ → Outcome
 quotiented F s k out = delivered (quotient_bytes F s k) out

@@ -4,35 +4,31 @@ ghost use Rattle.std.specs.Prelude.{◌+◌, ◌*◌, ◌≤◌, ◌≡◌, leng
 ghost use Rattle.buffer.specs.Write.{write};
 ghost use Rattle.record.specs.Header.{head_count, positive_count, naf_count};
 ghost use Rattle.record_walk.specs.Code.{record_size};
-ghost use Rattle.set.specs.Code.{Ascends, any_key};
+ghost use Rattle.set.specs.Code.{any_key};
 ghost use Rattle.quotient_rule.specs.Code.{left_at, strict_bytes, option_bytes, remainder_at};
 
 use crate::options::{count_left, write_left};
 use record_write::copy::copy;
 use record_write::records::write_header;
-use set::member::is_any_member;
+use set::members::Members;
 
 // Whether one of the rule's naf literals is in the set: then nothing is left of it.
-fn is_removed(t: &[u8], set: &[u8], count: usize) -> bool
-    requires t_in_bounds { record_size t.now ≤ length t.now }
-    requires count_in_bounds { 4 + 5 * count ≤ length set.now }
-    requires ascends { Ascends set.now count }
-    ensures { result ≡ any_key set.now count (naf_count t.now) t.now (7 + 5 * (head_count t.now + positive_count t.now)) }
+pub fn is_removed(t: &[u8], set: Members) -> bool
+    requires { record_size t.now ≤ length t.now }
+    ensures { result ≡ any_key set.entry.bytes.now set.entry.count (naf_count t.now) t.now (7 + 5 * (head_count t.now + positive_count t.now)) }
 {
     let heads = t[4] as usize;
     let positives = t[5] as usize;
     let nafs = t[6] as usize;
-    is_any_member(set, count, nafs, t, 7 + 5 * (heads + positives))
+    set.has_any(nafs, t, 7 + 5 * (heads + positives))
 }
 
 // The length of what is left of the rule; 0 where nothing is.
-pub fn measure_remainder(t: &[u8], set: &[u8], count: usize) -> usize
-    requires t_in_bounds { record_size t.now ≤ length t.now }
-    requires count_in_bounds { 4 + 5 * count ≤ length set.now }
-    requires ascends { Ascends set.now count }
-    ensures { result ≡ length (remainder_at t.now set.now count) }
+pub fn measure_remainder(t: &[u8], set: Members) -> usize
+    requires { record_size t.now ≤ length t.now }
+    ensures { result ≡ length (remainder_at t.now set.entry.bytes.now set.entry.count) }
 {
-    if is_removed(t, set, count) {
+    if is_removed(t, set) {
         return 0;
     }
     let heads = t[4] as usize;
@@ -40,7 +36,7 @@ pub fn measure_remainder(t: &[u8], set: &[u8], count: usize) -> usize
     if t[0] != b'D' {
         return 7 + 5 * (heads + positives);
     }
-    let left = count_left(t, heads, set, count);
+    let left = count_left(t, heads, set);
     if left == 0 {
         return 0;
     }
@@ -64,20 +60,18 @@ fn write_strict(t: &[u8], out: &mut [u8], to: usize) -> usize
 
 // A defeasible rule's options that are left and its positive literals, written: how many bytes. The header comes last, for it
 // counts the options; where there is no room for it, no option is left.
-fn write_options(t: &[u8], set: &[u8], count: usize, out: &mut [u8], to: usize) -> usize
+fn write_options(t: &[u8], set: Members, out: &mut [u8], to: usize) -> usize
     requires t_in_bounds { record_size t.now ≤ length t.now }
-    requires count_in_bounds { 4 + 5 * count ≤ length set.now }
-    requires ascends { Ascends set.now count }
-    requires t_in_bounds_2 { to + length (option_bytes t.now (left_at t.now set.now count 7 (head_count t.now))) ≤ length out.old }
-    ensures value { result ≡ length (option_bytes t.now (left_at t.now set.now count 7 (head_count t.now))) }
-    ensures out_after { out.new ≡ write out.old to (option_bytes t.now (left_at t.now set.now count 7 (head_count t.now))) }
+    requires t_in_bounds_2 { to + length (option_bytes t.now (left_at t.now set.bytes.now set.count 7 (head_count t.now))) ≤ length out.old }
+    ensures value { result ≡ length (option_bytes t.now (left_at t.now set.entry.bytes.now set.entry.count 7 (head_count t.now))) }
+    ensures out_after { out.new ≡ write out.old to (option_bytes t.now (left_at t.now set.entry.bytes.now set.entry.count 7 (head_count t.now))) }
 {
     if out.len() - to < 7 {
         return 0;
     }
     let heads = t[4] as usize;
     let positives = t[5];
-    let kept = write_left(t, heads, set, count, out, to + 7);
+    let kept = write_left(t, heads, set, out, to + 7);
     if kept == 0 {
         return 0;
     }
@@ -88,19 +82,17 @@ fn write_options(t: &[u8], set: &[u8], count: usize, out: &mut [u8], to: usize) 
 }
 
 // What is left of the rule, written: how many bytes.
-pub fn write_remainder(t: &[u8], set: &[u8], count: usize, out: &mut [u8], to: usize) -> usize
+pub fn write_remainder(t: &[u8], set: Members, out: &mut [u8], to: usize) -> usize
     requires t_in_bounds { record_size t.now ≤ length t.now }
-    requires count_in_bounds { 4 + 5 * count ≤ length set.now }
-    requires ascends { Ascends set.now count }
-    requires count_in_bounds_2 { to + length (remainder_at t.now set.now count) ≤ length out.old }
-    ensures value { result ≡ length (remainder_at t.now set.now count) }
-    ensures out_after { out.new ≡ write out.old to (remainder_at t.now set.now count) }
+    requires t_in_bounds_2 { to + length (remainder_at t.now set.bytes.now set.count) ≤ length out.old }
+    ensures value { result ≡ length (remainder_at t.now set.entry.bytes.now set.entry.count) }
+    ensures out_after { out.new ≡ write out.old to (remainder_at t.now set.entry.bytes.now set.entry.count) }
 {
-    if is_removed(t, set, count) {
+    if is_removed(t, set) {
         return 0;
     }
     if t[0] == b'D' {
-        return write_options(t, set, count, out, to);
+        return write_options(t, set, out, to);
     }
     write_strict(t, out, to)
 }

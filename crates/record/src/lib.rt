@@ -47,27 +47,12 @@ pub enum Reason {
     OutOfTurn,
 }
 
+// Why and where an operation refuses: the error of what it answers.
 #[derive(Clone, Copy)]
 pub struct Refusal {
     pub reason: Reason,
     // An offset in the slice that is refused.
     pub place: usize,
-}
-
-// What reading a program, or a set, answers.
-#[derive(Clone, Copy)]
-pub enum Reading {
-    // The number of rules, or of literals.
-    Count(usize),
-    Refused(Refusal),
-}
-
-// What an operation that writes a result answers.
-#[derive(Clone, Copy)]
-pub enum Written {
-    // The number of bytes written.
-    Length(usize),
-    Refused(Refusal),
 }
 
 // How many items of each kind a part of a file holds.
@@ -78,21 +63,7 @@ pub struct Held {
     pub oppositions: usize,
 }
 
-// What reading a file's items answers.
-#[derive(Clone, Copy)]
-pub enum Holding {
-    All(Held),
-    Refused(Refusal),
-}
-
-// What reading a run of literals finds.
-#[derive(Clone, Copy)]
-pub enum Run {
-    Right,
-    Refused(Refusal),
-}
-
-// What reading one record finds. Places are counted from the record's first byte.
+// What reading one record finds, but for a refusal.
 #[derive(Clone, Copy)]
 pub enum Step {
     // A rule's record of so many bytes.
@@ -101,15 +72,7 @@ pub enum Step {
     Override(usize),
     Opposition(usize),
     End,
-    Refused(Refusal),
-}
-
-// What reading one record leaves to be read: the part behind it, with what is held by then, or nothing.
-#[derive(Clone, Copy)]
-pub enum Found {
-    Next(usize, Held),
-    End,
-    Refused(Refusal),
 }
 
 pub mod number;
+pub mod refuse;

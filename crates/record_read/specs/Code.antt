@@ -1,20 +1,27 @@
 -- How code reads a run of rules.
--- In order: what ends a run of rules; counts with so many rules; the run.
+-- In order: what ends a run of rules; a record of a run; counts with so many rules; the run.
 -- Assumes nothing.
-use Rattle.std.specs.Prelude.{ℕ, ◌*◌, ◌≤◌, ◌≡◌, List, length, drop}
+use Rattle.std.specs.Prelude.{ℕ, ◌*◌, ◌≤◌, ◌≡◌, List, length, drop, Result, Ok, Err}
 use Rattle.literal.specs.declared.Limits.{Limits}
+use Rattle.record.specs.declared.Step.{Step}
 use Rattle.record.specs.declared.Held.{Held}
-use Rattle.record.specs.Result.{Result}
+use Rattle.record.specs.Result.{Answer}
 use Rattle.record.specs.Reading.{Entry, record_at}
 use Rattle.record.specs.Code.{step_of, total, left}
 use Rattle.record_step.specs.Code.{OtherLeft}
 use Rattle.record_read.specs.declared.Stop.{Stop}
 use Rattle.record_read.specs.declared.Rules.{Rules}
 
--- the record that ends a run of rules was read, or is neither a rule's nor the end
-abbrev pub StopAt : Limits → List ℕ → Result Entry → Stop → Type 0
-StopAt F t e (Stop.Told x) = step_of e ≡ x
+-- the record that ends a run of rules is the end, is neither that nor a rule's, or is refused
+abbrev pub StopAt : Limits → List ℕ → Answer Entry → Stop → Type 0
+StopAt F t e Stop.End = step_of e ≡ Ok Step.End
 StopAt F t e Stop.Other = OtherLeft F t
+StopAt F t e (Stop.Refused x) = step_of e ≡ Err x
+
+-- the record is a right rule's, as long as that, or ends the run
+abbrev pub RunAt : Limits → List ℕ → Answer Entry → Result ℕ Stop → Type 0
+RunAt F t e (Ok size) = step_of e ≡ Ok (Step.Rule size)
+RunAt F t e (Err x) = StopAt F t e x
 
 -- h, with n rules
 abbrev pub with_rules : Held → ℕ → Held

@@ -4,16 +4,28 @@
 ghost use Rattle.std.specs.Prelude.{◌*◌, ◌≤◌, ◌≡◌, length};
 ghost use Rattle.literal.specs.Limits.{source, plain};
 ghost use Rattle.record.specs.Reading.{items, record_at, holding_of, reading};
-ghost use Rattle.record.specs.Code.{step_of, total, rule_count, sheeted};
-ghost use Rattle.record_read.specs.Code.{StopAt, with_rules, Stopped};
+ghost use Rattle.record.specs.Code.{step_of, total, sheeted};
+ghost use Rattle.record_read.specs.Code.{RunAt, StopAt, Stopped};
 
 use crate::{Rules, Stop};
 use literal::Limits;
 use literal::form::{Plain, Source};
-use record::{Found, Held, Holding, Reading, Reason, Refusal, Step};
+use record::refuse::refuse;
+use record::{Held, Reason, Refusal, Step};
 use record_sheet::sheet::read_sheet;
 use record_step::Front;
 use record_step::step::{hold, read_body, read_front};
+
+// How long the rule's record at the part's start is, where so many rules came before; or what ends a run of rules there.
+fn read_record(lim: Limits, t: &[u8], rules: usize) -> Result<usize, Stop>
+    ensures { (h : Held) → h.rules ≡ rules → RunAt lim t.now (record_at lim h t.now) result }
+{
+    match read_front(lim, t, rules)? {
+        Front::Literals(defeasible) => Ok(read_body(lim, defeasible, t, t[4], t[5], t[6])?),
+        Front::End => Err(Stop::End),
+        Front::Other => Err(Stop::Other),
+    }
+}
 
 // The rules from a place on, where `held` came before, up to the first record that is no right rule's.
 fn read_rules(lim: Limits, s: &[u8], from: usize, held: Held) -> Rules
@@ -23,74 +35,36 @@ fn read_rules(lim: Limits, s: &[u8], from: usize, held: Held) -> Rules
 {
     let mut at = from;
     let mut rules = held.rules;
+    // No iterator: how far the next record goes, only reading it says, and it may be refused.
     loop {
-        let t = &s[at..];
-        let front = read_front(lim, t, rules);
-        match front {
-            Front::Told(step) => {
-                return Rules {
-                    at,
-                    rules,
-                    stop: Stop::Told(step),
-                };
+        match read_record(lim, &s[at..], rules) {
+            Ok(size) => {
+                at += size;
+                rules += 1;
             }
-            Front::Other => {
-                return Rules {
-                    at,
-                    rules,
-                    stop: Stop::Other,
-                };
-            }
-            Front::Literals(defeasible) => {
-                let step = read_body(lim, defeasible, t, t[4], t[5], t[6]);
-                if let Step::Rule(size) = step {
-                    at += size;
-                    rules += 1;
-                } else {
-                    return Rules {
-                        at,
-                        rules,
-                        stop: Stop::Told(step),
-                    };
-                }
-            }
+            Err(stop) => return Rules { at, rules, stop },
         }
     }
 }
 
 // What the record that ends a run of rules comes to, where `held` came before.
-fn read_stop(lim: Limits, t: &[u8], held: Held, stop: Stop) -> Step
+fn read_stop(lim: Limits, t: &[u8], held: Held, stop: Stop) -> Result<Step, Refusal>
     requires { StopAt lim t.now (record_at lim held t.now) stop }
     ensures { result ≡ step_of (record_at lim held t.now) }
 {
     match stop {
-        Stop::Told(step) => step,
+        Stop::End => Ok(Step::End),
         Stop::Other => read_sheet(lim, t, held),
-    }
-}
-
-// What is held, with so many rules.
-fn with_rules(held: Held, rules: usize) -> Held
-    ensures { result ≡ with_rules held rules }
-{
-    let overrides = held.overrides;
-    let oppositions = held.oppositions;
-    Held {
-        rules,
-        overrides,
-        oppositions,
+        Stop::Refused(x) => Err(x),
     }
 }
 
 // A file's items: reading goes on with the part behind the record just read.
-pub fn read_items(lim: Limits, s: &[u8]) -> Holding
+pub fn read_items(lim: Limits, s: &[u8]) -> Result<Held, Refusal>
     ensures { result ≡ holding_of (items lim s.now) }
 {
     if lim.length < s.len() {
-        return Holding::Refused(Refusal {
-            reason: Reason::TooLong,
-            place: 0,
-        });
+        return refuse(Reason::TooLong);
     }
     let mut at: usize = 0;
     let mut held = Held {
@@ -98,37 +72,24 @@ pub fn read_items(lim: Limits, s: &[u8]) -> Holding
         overrides: 0,
         oppositions: 0,
     };
+    // No iterator, as above.
     loop {
         let run = read_rules(lim, s, at, held);
         let place = run.at;
-        let passed = with_rules(held, run.rules);
-        let stop = run.stop;
-        let step = read_stop(lim, &s[place..], passed, stop);
-        let found = hold(passed, step);
-        match found {
-            Found::Next(size, more) => {
+        let passed = Held {
+            rules: run.rules,
+            ..held
+        };
+        match read_stop(lim, &s[place..], passed, run.stop) {
+            Ok(step) => {
+                let Some((size, more)) = hold(passed, step) else {
+                    return Ok(passed);
+                };
                 at = place + size;
                 held = more;
             }
-            Found::End => return Holding::All(passed),
-            Found::Refused(x) => {
-                let reason = x.reason;
-                return Holding::Refused(Refusal {
-                    reason,
-                    place: place + x.place,
-                });
-            }
+            Err(x) => return Err(x.behind(place)),
         }
-    }
-}
-
-// How many rules a file holds.
-fn count_rules(file: Holding) -> Reading
-    ensures { result ≡ rule_count file }
-{
-    match file {
-        Holding::All(held) => Reading::Count(held.rules),
-        Holding::Refused(x) => Reading::Refused(x),
     }
 }
 
@@ -142,22 +103,22 @@ pub fn has_sheets(held: Held) -> bool
     0 < held.oppositions
 }
 
-// The rules that are written.
-fn read(lim: Limits, s: &[u8]) -> Reading
+// How many rules are written.
+fn read(lim: Limits, s: &[u8]) -> Result<usize, Refusal>
     ensures { result ≡ reading lim s.now }
 {
-    count_rules(read_items(lim, s))
+    let held = read_items(lim, s)?;
+    Ok(held.rules)
 }
 
-// The source form.
-pub fn read_source(s: &[u8]) -> Reading
+// The entry points of the two forms, which README names and C calls: each is its form's row of limits.
+pub fn read_source(s: &[u8]) -> Result<usize, Refusal>
     ensures { result ≡ reading source s.now }
 {
     read(Source::limits(), s)
 }
 
-// The plain form.
-pub fn read_plain(s: &[u8]) -> Reading
+pub fn read_plain(s: &[u8]) -> Result<usize, Refusal>
     ensures { result ≡ reading plain s.now }
 {
     read(Plain::limits(), s)

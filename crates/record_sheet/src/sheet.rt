@@ -13,8 +13,8 @@ use literal::{Limits, Tag};
 use literal_decode::range::is_tag;
 use literal_decode::valid::is_literal;
 use literal_fields::field::get_tag;
+use record::refuse::refuse;
 use record::{Held, Reason, Refusal, Step};
-use record_step::step::refuse;
 
 // Whether the form has both tags.
 fn are_tags(lim: Limits, upper: Tag, lower: Tag) -> bool
@@ -55,18 +55,19 @@ fn is_full(lim: Limits, held: usize) -> bool
     lim.sheets <= held
 }
 
-// What a record with two options comes to: 5 at the first that is wrong, before 14 for two that are the same.
-fn judge_pair(one: bool, other: bool, same: bool) -> Step
+// What a record with two options comes to: 5 at the first that is wrong, before 14 for two that are the same. The three are tests, in the
+// order in which they count.
+fn judge_pair(one: bool, other: bool, same: bool) -> Result<Step, Refusal>
     ensures { result ≡ pair_step one other same }
 {
     if !one {
-        return Step::Refused(Refusal {
+        return Err(Refusal {
             reason: Reason::LiteralWrong,
             place: 2,
         });
     }
     if !other {
-        return Step::Refused(Refusal {
+        return Err(Refusal {
             reason: Reason::LiteralWrong,
             place: 7,
         });
@@ -74,11 +75,11 @@ fn judge_pair(one: bool, other: bool, same: bool) -> Step
     if same {
         return refuse(Reason::SheetSame);
     }
-    Step::Opposition(12)
+    Ok(Step::Opposition(12))
 }
 
 // An override, where `held` came before.
-fn read_override(lim: Limits, t: &[u8], held: usize) -> Step
+fn read_override(lim: Limits, t: &[u8], held: usize) -> Result<Step, Refusal>
     ensures { result ≡ step_of (override_at lim held t.now) }
 {
     if is_full(lim, held) {
@@ -95,11 +96,11 @@ fn read_override(lim: Limits, t: &[u8], held: usize) -> Step
     if upper.0 == lower.0 {
         return refuse(Reason::SheetSame);
     }
-    Step::Override(6)
+    Ok(Step::Override(6))
 }
 
 // An opposition, where `held` came before.
-fn read_opposition(lim: Limits, t: &[u8], held: usize) -> Step
+fn read_opposition(lim: Limits, t: &[u8], held: usize) -> Result<Step, Refusal>
     ensures { result ≡ step_of (opposition_at lim held t.now) }
 {
     if is_full(lim, held) {
@@ -114,7 +115,7 @@ fn read_opposition(lim: Limits, t: &[u8], held: usize) -> Step
 }
 
 // A record that is no rule's and not the end, where `held` came before: 3 where the form has no such mark.
-pub fn read_sheet(lim: Limits, t: &[u8], held: Held) -> Step
+pub fn read_sheet(lim: Limits, t: &[u8], held: Held) -> Result<Step, Refusal>
     requires { OtherLeft lim t.now }
     ensures { result ≡ step_of (record_at lim held t.now) }
 {

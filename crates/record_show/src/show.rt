@@ -8,10 +8,11 @@ ghost use Rattle.record_show.specs.Show.{extent_from, shown, shown_extent};
 ghost use Rattle.record_show.specs.Code.{Numbered, NumberedIn, rules_in};
 ghost use Rattle.record_show.specs.Part.{PartAt};
 
-use crate::{Extent, Shown};
+use crate::Extent;
 use literal::Limits;
 use literal::form::{Plain, Source};
-use record::{Holding, Reason, Refusal};
+use record::refuse::refuse;
+use record::{Reason, Refusal};
 use record_read::read::{has_sheets, read_items};
 use record_walk::size::{item_size, record_size};
 
@@ -21,10 +22,8 @@ fn walk(s: &[u8], number: usize) -> Extent
     ensures { (w : Holds (Numbered number) s.now) → result ≡ extent_from 0 (map rule w.program) number }
 {
     let mut at: usize = 0;
-    let mut left = number;
-    while 1 < left {
+    for _ in 1..number {
         at += record_size(&s[at..]);
-        left -= 1;
     }
     let size = record_size(&s[at..]);
     Extent { start: at, size }
@@ -48,6 +47,7 @@ fn walk_items(s: &[u8], number: usize) -> Extent
 {
     let mut at: usize = 0;
     let mut left = number;
+    // The place is what is asked for, so it is added up here: `Records` gives the records without their places.
     loop {
         let size = item_size(&s[at..]);
         let rules = count_rule(s[at]);
@@ -60,40 +60,28 @@ fn walk_items(s: &[u8], number: usize) -> Extent
 }
 
 // The extent of rule `number`'s record, or read's refusal, or that there is no such rule.
-fn find(lim: Limits, s: &[u8], number: u32) -> Shown
+fn find(lim: Limits, s: &[u8], number: u32) -> Result<Extent, Refusal>
     ensures { result ≡ shown lim s.now number }
 {
-    let file = read_items(lim, s);
-    match file {
-        Holding::Refused(x) => Shown::Refused(x),
-        Holding::All(held) => {
-            let n = number as usize;
-            if n == 0 {
-                return Shown::Refused(Refusal {
-                    reason: Reason::NoSuchRule,
-                    place: 0,
-                });
-            }
-            if held.rules < n {
-                return Shown::Refused(Refusal {
-                    reason: Reason::NoSuchRule,
-                    place: 0,
-                });
-            }
-            if has_sheets(held) {
-                return Shown::At(walk_items(s, n));
-            }
-            Shown::At(walk(s, n))
-        }
+    let held = read_items(lim, s)?;
+    let n = number as usize;
+    if n == 0 {
+        return refuse(Reason::NoSuchRule);
     }
+    if held.rules < n {
+        return refuse(Reason::NoSuchRule);
+    }
+    if has_sheets(held) {
+        return Ok(walk_items(s, n));
+    }
+    Ok(walk(s, n))
 }
 
 // The record of rule `number` as a part of the slice; on a refusal the empty part at the slice's start.
 fn show(lim: Limits, s: &[u8], number: u32) -> &[u8]
     ensures { PartAt s.entry result (shown_extent (shown lim s.now number)) }
 {
-    let a = find(lim, s, number);
-    let Shown::At(e) = a else {
+    let Ok(e) = find(lim, s, number) else {
         return &s[0..0];
     };
     let start = e.start;
@@ -101,8 +89,8 @@ fn show(lim: Limits, s: &[u8], number: u32) -> &[u8]
     &s[start..end]
 }
 
-// The source form.
-pub fn find_source(s: &[u8], number: u32) -> Shown
+// The entry points of the two forms, which README names and C calls: each is its form's row of limits.
+pub fn find_source(s: &[u8], number: u32) -> Result<Extent, Refusal>
     ensures { result ≡ shown source s.now number }
 {
     find(Source::limits(), s, number)
@@ -115,7 +103,7 @@ pub fn show_source(s: &[u8], number: u32) -> &[u8]
 }
 
 // The plain form.
-pub fn find_plain(s: &[u8], number: u32) -> Shown
+pub fn find_plain(s: &[u8], number: u32) -> Result<Extent, Refusal>
     ensures { result ≡ shown plain s.now number }
 {
     find(Plain::limits(), s, number)

@@ -2,8 +2,6 @@
 
 #![tactic(auto)]
 
-use record::Step;
-
 // How a record starts, as far as rules go.
 #[derive(Clone, Copy)]
 pub enum Opening {
@@ -14,11 +12,11 @@ pub enum Opening {
     Other,
 }
 
-// What stands before a record's literals.
+// What stands before a record's literals, but for a refusal.
 #[derive(Clone, Copy)]
 pub enum Front {
-    // All of the record: the end, or a refusal.
-    Told(Step),
+    // The end record, all of it.
+    End,
     // A rule's header that is right, of a defeasible rule or of a strict one: its literals are to be read.
     Literals(bool),
     // A sheet record's mark, or none of the form's.

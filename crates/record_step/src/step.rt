@@ -1,10 +1,11 @@
 // One record of a file, in its own part of the slice: document 01's tests in their order.
 
-ghost use Rattle.std.specs.Prelude.{◌+◌, ◌*◌, ◌≤◌, ◌<◌, ◌≡◌, false, length};
+ghost use Rattle.std.specs.Prelude.{◌+◌, ◌*◌, ◌≤◌, ◌<◌, ◌≡◌, false, length, Ok, Err};
+ghost use Rattle.literal.specs.declared.Limits.{Limits};
 ghost use Rattle.semantics.specs.Form.{keeps_counts};
-ghost use Rattle.record.specs.Refusal.{refusal};
-ghost use Rattle.record.specs.Reading.{literals_at, mark_at, tag_right, body_at, rule_at, end_at, record_at};
-ghost use Rattle.record.specs.Code.{run_of, signed_kinds, step_of, found_of};
+ghost use Rattle.record.specs.Result.{and_then};
+ghost use Rattle.record.specs.Reading.{literals_at, mark_at, tag_right, body_at, rule_at, end_at, record_at, entry_size};
+ghost use Rattle.record.specs.Code.{run_of, signed_kinds, next_of};
 ghost use Rattle.record_step.specs.Code.{opening, judged, FrontAt};
 
 use crate::{Front, Opening};
@@ -13,14 +14,8 @@ use literal::{Limits, Tag};
 use literal_decode::range::is_tag;
 use literal_decode::valid::is_literal;
 use literal_fields::field::get_tag;
-use record::{Found, Held, Reason, Refusal, Run, Step};
-
-// A refusal at the record's first byte.
-pub fn refuse(reason: Reason) -> Step
-    ensures { result ≡ Step.Refused (refusal reason 0) }
-{
-    Step::Refused(Refusal { reason, place: 0 })
-}
+use record::refuse::refuse;
+use record::{Held, Reason, Refusal, Step};
 
 // How the record starts: the letters of sheet records are not asked for here, so that few are.
 pub fn open_record(lim: Limits, t: &[u8]) -> Opening
@@ -70,23 +65,20 @@ fn are_counts_kept(lim: Limits, heads: usize, positives: usize, nafs: usize) -> 
 }
 
 // The literals behind a rule's header, up to the first wrong one.
-fn read_literals(lim: Limits, t: &[u8], count: usize) -> Run
+fn read_literals(lim: Limits, t: &[u8], count: usize) -> Result<(), Refusal>
     requires { 7 + 5 * count ≤ length t.now }
     ensures { result ≡ run_of (literals_at lim t.now 7 count) }
 {
-    let mut at: usize = 7;
-    let mut left = count;
-    while 0 < left {
-        if !is_literal(lim, &t[at..]) {
-            return Run::Refused(Refusal {
+    for i in 0..count {
+        let place = 7 + 5 * i;
+        if !is_literal(lim, &t[place..]) {
+            return Err(Refusal {
                 reason: Reason::LiteralWrong,
-                place: at,
+                place,
             });
         }
-        at += 5;
-        left -= 1;
     }
-    Run::Right
+    Ok(())
 }
 
 // Whether the head's literals are atoms and negated atoms: no mark can be chosen.
@@ -94,26 +86,26 @@ fn is_head_signed(t: &[u8], heads: usize) -> bool
     requires { 7 + 5 * heads ≤ length t.now }
     ensures { result ≡ signed_kinds t.now 7 heads }
 {
-    let mut at: usize = 7;
-    let mut left = heads;
-    while 0 < left {
-        if 1 < t[at] {
+    for i in 0..heads {
+        if 1 < t[7 + 5 * i] {
             return false;
         }
-        at += 5;
-        left -= 1;
     }
     true
 }
 
-// What a record of so many bytes comes to, by its literals: a defeasible head is not empty, and holds no mark.
-pub fn judge_literals(run: Run, defeasible: bool, t: &[u8], heads: u8, size: usize) -> Step
+// How long a rule's record of so many bytes is, by its literals: a defeasible head is not empty, and holds no mark.
+pub fn judge_literals(
+    run: Result<(), Refusal>,
+    defeasible: bool,
+    t: &[u8],
+    heads: u8,
+    size: usize,
+) -> Result<usize, Refusal>
     requires { 7 + 5 * heads ≤ length t.now }
     ensures { result ≡ judged run defeasible t.now heads size }
 {
-    if let Run::Refused(x) = run {
-        return Step::Refused(x);
-    }
+    run?;
     if defeasible {
         if heads == 0 {
             return refuse(Reason::HeadWrong);
@@ -122,10 +114,10 @@ pub fn judge_literals(run: Run, defeasible: bool, t: &[u8], heads: u8, size: usi
             return refuse(Reason::HeadWrong);
         }
     }
-    Step::Rule(size)
+    Ok(size)
 }
 
-// A rule's record whose header is right: its literals, then what a defeasible head may hold.
+// How long a rule's record is whose header is right: its literals, then what a defeasible head may hold.
 pub fn read_body(
     lim: Limits,
     defeasible: bool,
@@ -133,8 +125,8 @@ pub fn read_body(
     heads: u8,
     positives: u8,
     nafs: u8,
-) -> Step
-    ensures { result ≡ step_of (body_at lim defeasible t.now heads positives nafs) }
+) -> Result<usize, Refusal>
+    ensures { result ≡ and_then (body_at lim defeasible t.now heads positives nafs) entry_size }
 {
     let count = heads as usize + positives as usize + nafs as usize;
     let size = 7 + 5 * count;
@@ -146,29 +138,29 @@ pub fn read_body(
 }
 
 // A rule's header, where `held` rules came before: its tests in document 01's order.
-fn read_header(lim: Limits, defeasible: bool, t: &[u8], held: usize) -> Front
+fn read_header(lim: Limits, defeasible: bool, t: &[u8], held: usize) -> Result<Front, Refusal>
     requires { lim.defeasible ≡ false → defeasible ≡ false }
     ensures { FrontAt lim t.now (rule_at lim defeasible held t.now) result }
 {
     if t.len() < 7 {
-        return Front::Told(refuse(Reason::HeaderCut));
+        return refuse(Reason::HeaderCut);
     }
     if lim.rules <= held {
-        return Front::Told(refuse(Reason::TooManyRules));
+        return refuse(Reason::TooManyRules);
     }
     let tag = get_tag(t, 2);
     if !is_tag_right(lim, defeasible, tag) {
-        return Front::Told(refuse(Reason::TagWrong));
+        return refuse(Reason::TagWrong);
     }
     if !are_counts_kept(lim, t[4] as usize, t[5] as usize, t[6] as usize) {
-        return Front::Told(refuse(Reason::TooManyLiterals));
+        return refuse(Reason::TooManyLiterals);
     }
-    Front::Literals(defeasible)
+    Ok(Front::Literals(defeasible))
 }
 
 // The end record, where `held` rules came before.
-fn read_end(t: &[u8], held: usize) -> Step
-    ensures { result ≡ step_of (end_at held t.now) }
+fn read_end(t: &[u8], held: usize) -> Result<Front, Refusal>
+    ensures { (lim : Limits) → FrontAt lim t.now (end_at held t.now) result }
 {
     if t.len() < 4 {
         return refuse(Reason::HeaderCut);
@@ -180,59 +172,55 @@ fn read_end(t: &[u8], held: usize) -> Step
     if t.len() != 4 {
         return refuse(Reason::EndWrong);
     }
-    Step::End
+    Ok(Front::End)
 }
 
 // What stands before a record's literals, where `held` rules came before: what the record is, that its literals are to be read, or that
 // it is no rule's and not the end.
-pub fn read_front(lim: Limits, t: &[u8], held: usize) -> Front
+pub fn read_front(lim: Limits, t: &[u8], held: usize) -> Result<Front, Refusal>
     ensures { (h : Held) → h.rules ≡ held → FrontAt lim t.now (record_at lim h t.now) result }
 {
     if t.len() < 2 {
-        return Front::Told(refuse(Reason::MarkCut));
+        return refuse(Reason::MarkCut);
     }
     let opening = open_record(lim, t);
     match opening {
         Opening::Rule(defeasible) => read_header(lim, defeasible, t, held),
-        Opening::End => Front::Told(read_end(t, held)),
-        Opening::Other => Front::Other,
+        Opening::End => read_end(t, held),
+        Opening::Other => Ok(Front::Other),
     }
 }
 
-// What is left behind a record, where `held` came before it: one item more is held.
-pub fn hold(held: Held, step: Step) -> Found
+// What is left behind a record, where `held` came before it: the part behind so many bytes, with one item more held; nothing behind the end.
+pub fn hold(held: Held, step: Step) -> Option<(usize, Held)>
     requires { held.rules + held.overrides + held.oppositions < 9223372036854775808 }
-    ensures { result ≡ found_of held step }
+    ensures { result ≡ next_of held step }
 {
     let rules = held.rules;
     let overrides = held.overrides;
     let oppositions = held.oppositions;
     match step {
-        Step::Rule(size) => Found::Next(
+        Step::Rule(size) => Some((
             size,
             Held {
                 rules: rules + 1,
-                overrides,
-                oppositions,
+                ..held
             },
-        ),
-        Step::Override(size) => Found::Next(
+        )),
+        Step::Override(size) => Some((
             size,
             Held {
-                rules,
                 overrides: overrides + 1,
-                oppositions,
+                ..held
             },
-        ),
-        Step::Opposition(size) => Found::Next(
+        )),
+        Step::Opposition(size) => Some((
             size,
             Held {
-                rules,
-                overrides,
                 oppositions: oppositions + 1,
+                ..held
             },
-        ),
-        Step::End => Found::End,
-        Step::Refused(x) => Found::Refused(x),
+        )),
+        Step::End => None,
     }
 }

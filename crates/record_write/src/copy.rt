@@ -8,13 +8,5 @@ pub fn copy(s: &[u8], from: usize, count: usize, out: &mut [u8], to: usize)
     requires count_in_bounds_2 { to + count ≤ length out.old }
     ensures { out.new ≡ write out.old to (take count (drop from s.now)) }
 {
-    let mut at = from;
-    let mut next = to;
-    let mut left = count;
-    while 0 < left {
-        out[next] = s[at];
-        at += 1;
-        next += 1;
-        left -= 1;
-    }
+    out[to..to + count].copy_from_slice(&s[from..from + count]);
 }

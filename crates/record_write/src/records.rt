@@ -7,7 +7,7 @@ ghost use Rattle.record_write.specs.Code.{header};
 
 use buffer::put::put_number;
 
-// The header of a strict rule's record.
+// The header of a strict rule's record. Store by store: copied from an array of these seven bytes, it goes by way of the stack.
 pub fn write_header(heads: u8, positives: u8, nafs: u8, out: &mut [u8], to: usize)
     requires { to + 7 ≤ length out.old }
     ensures { out.new ≡ write out.old to (header heads positives nafs) }

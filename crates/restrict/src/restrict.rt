@@ -8,7 +8,8 @@ ghost use Rattle.restrict.specs.Restrict.{restricted};
 
 use literal::Limits;
 use literal::form::Plain;
-use record::{Reading, Reason, Refusal, Written};
+use record::refuse::refuse;
+use record::{Reason, Refusal};
 use record_write::copy::copy;
 use set::header::write_set_header;
 use set::read::read_set;
@@ -18,45 +19,33 @@ fn count_front(k: &[u8], count: usize) -> usize
     requires { 4 + 5 * count ≤ length k.now }
     ensures { result ≡ source_front k.now 4 count }
 {
-    let mut at: usize = 4;
-    let mut held: usize = 0;
-    while held < count {
-        if 3 < k[at] {
+    for held in 0..count {
+        if 3 < k[4 + 5 * held] {
             return held;
         }
-        at += 5;
-        held += 1;
     }
-    held
+    count
 }
 
 // The restriction of the set that `k` holds in a form, written to the start of `out`. A set's literals ascend, so that
 // those of kinds 0 to 3 are its first ones, and one run of bytes.
-fn restrict(lim: Limits, k: &[u8], out: &mut [u8]) -> Written
+fn restrict(lim: Limits, k: &[u8], out: &mut [u8]) -> Result<usize, Refusal>
     ensures { Meets (restricted lim k.now out.old) result out.new }
 {
-    let read = read_set(lim, lim.literals, k);
-    match read {
-        Reading::Refused(x) => Written::Refused(x),
-        Reading::Count(n) => {
-            let held = count_front(k, n);
-            let bytes = 5 * held;
-            let size = 4 + bytes;
-            if out.len() < size {
-                return Written::Refused(Refusal {
-                    reason: Reason::OutputShort,
-                    place: 0,
-                });
-            }
-            write_set_header(held as u16, out);
-            copy(k, 4, bytes, out, 4);
-            Written::Length(size)
-        }
+    let n = read_set(lim, lim.literals, k)?;
+    let held = count_front(k, n);
+    let bytes = 5 * held;
+    let size = 4 + bytes;
+    if out.len() < size {
+        return refuse(Reason::OutputShort);
     }
+    write_set_header(held as u16, out);
+    copy(k, 4, bytes, out, 4);
+    Ok(size)
 }
 
 // The restriction of a plain set.
-pub fn restrict_plain(k: &[u8], out: &mut [u8]) -> Written
+pub fn restrict_plain(k: &[u8], out: &mut [u8]) -> Result<usize, Refusal>
     ensures { Meets (restricted plain k.now out.old) result out.new }
 {
     restrict(Plain::limits(), k, out)

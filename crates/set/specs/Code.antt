@@ -3,7 +3,8 @@
 -- number i; ascending keys; whether a literal has a key, and which; the set of keys; a run of literals; what is written before
 -- the literals of a record; the reader's answer.
 -- Assumes nothing.
-use Rattle.std.specs.Prelude.{ℕ, zero, suc, ◌+◌, ◌*◌, ◌≤◌, ◌<◌, ◌≡◌, Bool, true, false, ◌&&◌, ◌||◌, List, ◌∷◌, ltb, eqb, drop}
+use Rattle.std.specs.Prelude.{ℕ, zero, suc, ◌+◌, ◌*◌, ◌<◌, ◌≡◌, Bool, true, false, ◌&&◌, ◌||◌, List, ◌∷◌, ltb, eqb, drop, Ok, Err}
+use Rattle.record.specs.Result.{Answer}
 use Rattle.buffer.specs.Bytes.{two_bytes}
 use Rattle.literal.specs.declared.Limits.{Limits}
 use Rattle.literal.specs.Literal.{decoded}
@@ -11,20 +12,18 @@ use Rattle.literal.specs.Code.{is_valid, key_at}
 use Rattle.literal.specs.Order.{key}
 use Rattle.semantics.specs.Set.{LiteralSet}
 use Rattle.record.specs.declared.Reason.TheVariants.{MemberWrong}
-use Rattle.record.specs.declared.Run.{Run}
-use Rattle.record.specs.declared.Reading.{Reading}
 use Rattle.record.specs.Header.{set_letter, colon}
 use Rattle.record.specs.Refusal.{refusal}
 use Rattle.record.specs.Reading.{reading_of}
 use Rattle.set.specs.Reading.{parsed_set}
 
 -- n literals from `at` on, each with a key above the one before: `last`, 0 before the first
-unfoldable pub members_above : Limits → List ℕ → ℕ → ℕ → ℕ → Run
-members_above F s at last zero = Run.Right
+unfoldable pub members_above : Limits → List ℕ → ℕ → ℕ → ℕ → Answer (Unit {0})
+members_above F s at last zero = Ok tt
 members_above F s at last (suc n) =
     elim (is_valid (decoded F (drop at s)) && ltb last (key_at (drop at s))) [
       | true ↦ members_above F s (at + 5) (key_at (drop at s)) n
-      | false ↦ Run.Refused (refusal MemberWrong at)
+      | false ↦ Err (refusal MemberWrong at)
     ]
 
 -- the key of literal number i, from 0
@@ -44,11 +43,10 @@ has_key_from s at (suc n) k = eqb (key_at (drop at s)) k || has_key_from s (at +
 unfoldable pub has_key : List ℕ → ℕ → ℕ → Bool
 has_key s n k = has_key_from s 4 n k
 
--- r is the number of a literal with this key, from 0; n where none has it
-pub record Place (s : List ℕ) (n k r : ℕ) : Type 0 where
-  pub most : r ≤ n
-  pub found : r < n → member_key s r ≡ k
-  pub none : n ≤ r → has_key s n k ≡ false
+-- literal number i of n, from 0, has this key
+pub record At (s : List ℕ) (n k i : ℕ) : Type 0 where
+  pub inside : i < n
+  pub same : member_key s i ≡ k
 
 -- the literals whose key it has, as a set
 abbrev pub key_set : List ℕ → ℕ → LiteralSet
@@ -64,5 +62,5 @@ unfoldable pub set_header : ℕ → List ℕ
 set_header n = set_letter ∷ colon ∷ two_bytes n
 
 -- the answer: the number of literals
-unfoldable pub set_reading : Limits → ℕ → List ℕ → Reading
+unfoldable pub set_reading : Limits → ℕ → List ℕ → Answer ℕ
 set_reading F most s = reading_of (parsed_set F most s)

@@ -3,6 +3,5 @@
 #![tactic(auto)]
 
 pub mod header;
-pub mod member;
+pub mod members;
 pub mod read;
-pub mod search;

@@ -1,6 +1,6 @@
 // Reading a set: its mark and length, its count, then its literals in one pass.
 
-ghost use Rattle.std.specs.Prelude.{◌+◌, ◌*◌, ◌≤◌, ◌≡◌, length};
+ghost use Rattle.std.specs.Prelude.{◌+◌, ◌*◌, ◌≤◌, ◌≡◌, length, Err};
 ghost use Rattle.record.specs.Refusal.{refusal};
 ghost use Rattle.set.specs.Reading.{set_shape};
 ghost use Rattle.set.specs.Code.{set_reading, members_above};
@@ -9,22 +9,16 @@ use buffer::get::get_number;
 use literal::Limits;
 use literal_decode::valid::is_literal;
 use literal_fields::order::key_at;
-use record::{Reading, Reason, Refusal, Run};
-
-// A refusal of the whole set, at its first byte.
-fn refuse(reason: Reason) -> Reading
-    ensures { result ≡ Reading.Refused (refusal reason 0) }
-{
-    Reading::Refused(Refusal { reason, place: 0 })
-}
+use record::refuse::refuse;
+use record::{Reason, Refusal};
 
 // A refusal of the literal at a place.
-fn refuse_member(at: usize) -> Run
-    ensures { result ≡ Run.Refused (refusal Reason.MemberWrong at) }
+fn refuse_member(place: usize) -> Result<(), Refusal>
+    ensures { result ≡ Err (refusal Reason.MemberWrong place) }
 {
-    Run::Refused(Refusal {
+    Err(Refusal {
         reason: Reason::MemberWrong,
-        place: at,
+        place,
     })
 }
 
@@ -47,30 +41,27 @@ fn is_shaped(s: &[u8]) -> bool
 
 // The literals behind the count, up to the first that is wrong or not above the one before. The key of the one before
 // is kept; no literal has the key 0, for atoms and rule numbers start at 1.
-fn read_members(lim: Limits, s: &[u8], count: usize) -> Run
+fn read_members(lim: Limits, s: &[u8], count: usize) -> Result<(), Refusal>
     requires { 4 + 5 * count ≤ length s.now }
     ensures { result ≡ members_above lim s.now 4 0 count }
 {
-    let mut at: usize = 4;
     let mut last: u64 = 0;
-    let mut left = count;
-    while 0 < left {
-        if !is_literal(lim, &s[at..]) {
-            return refuse_member(at);
+    for i in 0..count {
+        let place = 4 + 5 * i;
+        if !is_literal(lim, &s[place..]) {
+            return refuse_member(place);
         }
-        let key = key_at(&s[at..]);
+        let key = key_at(&s[place..]);
         if key <= last {
-            return refuse_member(at);
+            return refuse_member(place);
         }
         last = key;
-        at += 5;
-        left -= 1;
     }
-    Run::Right
+    Ok(())
 }
 
 // A set of at most `most` literals of the form: the tests in document 01's order, 10, 12, 11.
-pub fn read_set(lim: Limits, most: usize, s: &[u8]) -> Reading
+pub fn read_set(lim: Limits, most: usize, s: &[u8]) -> Result<usize, Refusal>
     ensures { result ≡ set_reading lim most s.now }
 {
     if !is_shaped(s) {
@@ -80,9 +71,6 @@ pub fn read_set(lim: Limits, most: usize, s: &[u8]) -> Reading
     if most < count {
         return refuse(Reason::SetTooLarge);
     }
-    let run = read_members(lim, s, count);
-    match run {
-        Run::Right => Reading::Count(count),
-        Run::Refused(x) => Reading::Refused(x),
-    }
+    read_members(lim, s, count)?;
+    Ok(count)
 }

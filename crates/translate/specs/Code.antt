@@ -1,20 +1,15 @@
 -- What the passes over a program ask of it, and what is made of it (01, "Translate").
 -- In order: a program whose translation's counts fit their types; one whose translation has room; forms within whose limits a program,
--- with the rules that sheets append to it, is so; the translation, delivered; a file with sheets or a program, and what is answered of it.
+-- with the rules that sheets append to it, is so; the translation, delivered.
 -- Assumes nothing.
-use Rattle.std.specs.Prelude.{ℕ, ◌+◌, ◌*◌, ◌≤◌, ◌<◌, Bool, true, false, List, T, leb, length}
+use Rattle.std.specs.Prelude.{ℕ, ◌+◌, ◌*◌, ◌≤◌, ◌<◌, List, T, leb, length, Ok}
 use Rattle.literal.specs.declared.Limits.{Limits}
 use Rattle.semantics.specs.Set.{each_of}
 use Rattle.semantics.specs.Rule.{naf, Program}
-use Rattle.semantics.specs.Item.{expanded}
 use Rattle.semantics.specs.Translation.{translation, translation_length}
 use Rattle.semantics.specs.Form.{most_appended, TakesDefeats}
-use Rattle.record.specs.declared.Written.{Written}
-use Rattle.record.specs.Result.{accepted, Outcome, delivered}
+use Rattle.record.specs.Result.{Outcome, delivered}
 use Rattle.record.specs.Layout.{encoded_program}
-use Rattle.record.specs.Meets.{Meets}
-use Rattle.record_walk.specs.Code.{Holds, HoldsFile}
-use Rattle.expand.specs.Code.{normal_bytes, Meaning}
 
 -- two bytes count the rules of its translation, and one more; its bytes can be added up; and a naf literal more fits its byte
 pub record Translatable (p : Program) : Type 0 where
@@ -36,14 +31,4 @@ pub record Writable (F : Limits) : Type 0 where
 
 -- a program's translation, delivered
 abbrev pub translation_of : Program → List ℕ → Outcome
-translation_of p out = delivered (accepted (encoded_program (translation p))) out
-
--- s holds a file with sheets, with an array of our own for its normal form, or a program; and either can be translated
-abbrev pub Given : Bool → List ℕ → Type 0
-Given true s = HoldsFile (Meaning Translatable normal_bytes) s
-Given false s = Holds Translatable s
-
--- the answer r and the buffer, as it is at the end, are those of the program that either means
-abbrev pub Answered : Bool → List ℕ → List ℕ → Written → List ℕ → Type 0
-Answered true s out r end = (w : HoldsFile (Meaning Translatable normal_bytes) s) → Meets (translation_of (expanded w.items) out) r end
-Answered false s out r end = (w : Holds Translatable s) → Meets (translation_of w.program out) r end
+translation_of p out = delivered (Ok (encoded_program (translation p))) out

@@ -8,7 +8,7 @@ ghost use Rattle.record_walk.specs.Code.{Holds};
 ghost use Rattle.translate.specs.Code.{Translatable, Fitting};
 
 use literal::RuleNo;
-use record_walk::size::record_size;
+use record_walk::records::Records;
 use record_write::records::write_end;
 use translate_rule::rules::{count_rules, measure_rule, write_rule};
 
@@ -17,12 +17,9 @@ pub fn measure_rules(s: &[u8]) -> usize
     requires { Holds Translatable s.now }
     ensures { (w : Holds Translatable s.now) → result ≡ translation_length w.program }
 {
-    let mut at: usize = 0;
     let mut total: usize = 4;
-    while s[at] != b'E' {
-        let part = &s[at..];
+    for part in Records::new(s) {
         total += measure_rule(part);
-        at += record_size(part);
     }
     total
 }
@@ -32,17 +29,12 @@ pub fn write_rules(s: &[u8], out: &mut [u8])
     requires { Holds (Fitting (length out.old)) s.now }
     ensures { (w : Holds (Fitting (length out.old)) s.now) → out.new ≡ write out.old 0 (encoded_program (translation w.program)) }
 {
-    let mut at: usize = 0;
-    let mut number: u16 = 1;
     let mut made: usize = 0;
     let mut to: usize = 0;
-    while s[at] != b'E' {
-        let part = &s[at..];
-        write_rule(RuleNo(number), part, out, to);
+    for (i, part) in Records::new(s).enumerate() {
+        write_rule(RuleNo(i as u16 + 1), part, out, to);
         to += measure_rule(part);
         made += count_rules(part);
-        at += record_size(part);
-        number += 1;
     }
     write_end(made as u16, out, to);
 }

@@ -13,7 +13,8 @@ use literal::{Literal, SignedAtom, Tag};
 use literal_fields::encode::encode;
 use record_walk::options::{option_at, tag_at};
 
-// The derivation mark of an option, or its defeat mark.
+// The derivation mark of an option, or its defeat mark. A flag, as in the definition: two functions or a closure would have to say twice
+// where the mark goes.
 fn mark_option(derived: bool, tag: Tag, option: SignedAtom) -> Literal
     ensures { result ≡ mark_of derived tag option }
 {
@@ -52,13 +53,7 @@ pub fn write_marks(derived: bool, s: &[u8], heads: usize, out: &mut [u8], to: us
     requires heads_in_bounds_2 { to + 5 * heads ≤ length out.old }
     ensures { out.new ≡ write out.old to (encoded_literals (map (mark_of derived (tag_at s.now)) (options_at s.now 7 heads))) }
 {
-    let mut at: usize = 7;
-    let mut next = to;
-    let mut left = heads;
-    while 0 < left {
-        write_mark(derived, s, at, out, next);
-        at += 5;
-        next += 5;
-        left -= 1;
+    for i in 0..heads {
+        write_mark(derived, s, 7 + 5 * i, out, to + 5 * i);
     }
 }

@@ -62,13 +62,7 @@ pub fn write_options(s: &[u8], heads: usize, out: &mut [u8], to: usize)
     requires heads_in_bounds_2 { to + 56 * heads ≤ length out.old }
     ensures { out.new ≡ write out.old to (encoded_rules (options (tag_at s.now) (options_at s.now 7 heads))) }
 {
-    let mut at: usize = 7;
-    let mut next = to;
-    let mut left = heads;
-    while 0 < left {
-        write_three(s, at, out, next);
-        at += 5;
-        next += 56;
-        left -= 1;
+    for i in 0..heads {
+        write_three(s, 7 + 5 * i, out, to + 56 * i);
     }
 }

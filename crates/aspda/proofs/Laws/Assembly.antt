@@ -2,6 +2,7 @@
 -- In order: one call; the promise over a history; the words of calls.
 -- Assumes nothing.
 use Prim.Native.Nat.{ℕ, ◌+◌, ◌^◌, ◌<◌}
+use Rattle.std.specs.Prelude.{Ok}
 use native.Mathlib.Omega.{arith}
 use mathlib.Core.Path.{◌≡◌, refl, sym, ◌∙◌, ap}
 use mathlib.Core.List.{List, [], ◌∷◌, ◌++◌, map, map-append}
@@ -18,11 +19,9 @@ use Rattle.literal.specs.Limits.{source}
 use Rattle.literal.proofs.Laws.Literal.{TwoBytes}
 use Rattle.semantics.specs.Rule.{Rule, Program}
 use Rattle.semantics.specs.Item.{rule}
-use Rattle.record.specs.Result.{accepted}
 use Rattle.record.specs.Layout.{encoded_rule, encoded_rules}
 use Rattle.record.specs.Reading.{items}
 use Rattle.record.proofs.Laws.Unsheeted.{rules-of, items-bytes}
-use Rattle.record_show.specs.declared.Shown.TheVariants.{At}
 use Rattle.record_show.specs.Show.{shown}
 use Rattle.record_show.proofs.Laws.Record.{shown-behind, shown-record}
 use Rattle.assembly.specs.State.{state_bytes, stage_of}
@@ -36,8 +35,8 @@ use Rattle.assembly.specs.Code.{standing_of}
 use Rattle.assembly.proofs.Laws.Turn.{assembled-standing}
 use Rattle.assembly.proofs.Laws.Answers.{answer-count}
 use Rattle.assembly.proofs.Laws.Forms.{assemblable-source, standing-small}
-use Rattle.aspda_word.specs.Words.{ToldReading}
-use Rattle.aspda_word.proofs.Laws.Told.{told-reading}
+use Rattle.aspda_word.specs.Words.{ToldCount}
+use Rattle.aspda_word.proofs.Laws.Told.{told-count}
 use Rattle.aspda.specs.Claims.{Calling, Assembles}
 
 -- an option and a tag that a source takes, of which a record of each shape is made
@@ -84,15 +83,15 @@ one-call =
     }
 
 -- a program whose bytes are read as its rules is shown rule by rule
-module _ (b : List ℕ) (bytes : Bytes b) (p front : Program) (r : Rule) (rest : Program) (read : items source b ≡ accepted (map rule p)) (parts : p ≡ front ++ (r ∷ rest)) where
-  read-parts : items source b ≡ accepted (map rule front ++ (rule r ∷ map rule rest))
-  read-parts = read ∙ ap (λ (q : Program). accepted (map rule q)) parts ∙ ap accepted (map-append rule front (r ∷ rest))
+module _ (b : List ℕ) (bytes : Bytes b) (p front : Program) (r : Rule) (rest : Program) (read : items source b ≡ Ok (map rule p)) (parts : p ≡ front ++ (r ∷ rest)) where
+  read-parts : items source b ≡ Ok (map rule front ++ (rule r ∷ map rule rest))
+  read-parts = read ∙ ap (λ (q : Program). Ok (map rule q)) parts ∙ ap Ok (map-append rule front (r ∷ rest))
 
-  shown-at : shown source b (length front + 1) ≡ At (record { start = length (encoded_rules front); size = length (encoded_rule r) })
+  shown-at : shown source b (length front + 1) ≡ Ok (record { start = length (encoded_rules front); size = length (encoded_rule r) })
   shown-at =
       ap (λ (q : Program). shown source b (length q + 1)) (sym (rules-of front))
       ∙ shown-behind source b (map rule front) r (map rule rest) bytes read-parts
-      ∙ ap (λ (bs : List ℕ). At (record { start = length bs; size = length (encoded_rule r) })) (items-bytes front)
+      ∙ ap (λ (bs : List ℕ). Ok (record { start = length bs; size = length (encoded_rule r) })) (items-bytes front)
 
   shown-is : take (length (encoded_rule r)) (drop (length (encoded_rules front)) b) ≡ encoded_rule r
   shown-is =
@@ -118,9 +117,9 @@ promised s begins cs bytes =
     }
 
 -- the words of calls, and the length that is assembled
-pub told-called : (c : Call) → BytesIn c → (st out : List ℕ) → Bytes st → ToldReading (called source c st out).answer
+pub told-called : (c : Call) → BytesIn c → (st out : List ℕ) → Bytes st → ToldCount (called source c st out).answer
 told-called c h st out bytes =
-    told-reading (called source c st out).answer (λ n e. omega (arith, (answer-count source assemblable-source c h st out bytes n e).1, assemblable-source.rules))
+    told-count (called source c st out).answer (λ n e. omega (arith, (answer-count source assemblable-source c h st out bytes n e).1, assemblable-source.rules))
 
 pub assembled-small : (st : List ℕ) → Bytes st → assembled source st < 2 ^ 63
 assembled-small st bytes =

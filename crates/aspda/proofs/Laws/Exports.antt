@@ -2,6 +2,7 @@
 -- In order: a plain program's rules and literals; the text's length; what is written; what the text says.
 -- Assumes nothing.
 use Prim.Native.Nat.{ℕ, ◌+◌, ◌*◌, ◌≤◌}
+use Rattle.std.specs.Prelude.{Ok}
 use native.Mathlib.Omega.{arith}
 use native.Mathlib.Nat.{zero-add}
 use mathlib.Core.Path.{◌≡◌, sym, ◌∙◌, ap, subst}
@@ -21,8 +22,7 @@ use Rattle.semantics.specs.Rule.{Rule, strict, defeasible, Program}
 use Rattle.semantics.specs.Form.{keeps_rule}
 use Rattle.semantics.proofs.Laws.Tests.{Each, each-intro, each-mem, all-intro, all-mem}
 use Rattle.semantics.proofs.Laws.Form.{kept}
-use Rattle.record.specs.declared.Written.TheVariants.{Length}
-use Rattle.record.specs.Result.{Result, accepted, and_then, Outcome, delivered}
+use Rattle.record.specs.Result.{Answer, and_then, Outcome, delivered}
 use Rattle.record.specs.Layout.{keeps}
 use Rattle.record.specs.Reading.{parsed}
 use Rattle.record.proofs.Laws.Bounds.{parsed-short}
@@ -45,7 +45,7 @@ use Rattle.aspif_place.proofs.Laws.Limits.{plain-placeable, literals-placed-in}
 use Rattle.aspif.specs.Aspif.{aspif_bytes, exported}
 use Rattle.aspif.proofs.Laws.Text.{text-enough}
 use Rattle.aspif.proofs.Laws.Outcome.{exportable-plain}
-use Rattle.aspda_word.specs.Words.{ToldWritten}
+use Rattle.aspda_word.specs.Words.{ToldCount}
 use Rattle.aspda.specs.Claims.{Exports}
 use Rattle.aspda.proofs.Laws.Told.{bounded, bounded-then, told-delivered}
 
@@ -69,7 +69,7 @@ said p xs e = some-eq (sym (says-text (statements p)) ∙ e)
 pub names-of-text : (p : Program) (xs : List Statement) → says (aspif_text p) ≡ some xs → outputs_of xs ≡ map output_of (names p)
 names-of-text p xs e = ap outputs_of (sym (said p xs e)) ∙ outputs-of-statements p
 
-module _ (b : List ℕ) (p : Program) (bytes : Bytes b) (read : parsed plain b ≡ accepted p) where
+module _ (b : List ℕ) (p : Program) (bytes : Bytes b) (read : parsed plain b ≡ Ok p) where
   within : T (keeps plain p)
   within = (parsed-sound plain plain-unsheeted b p bytes read).1
 
@@ -96,11 +96,11 @@ module _ (b : List ℕ) (p : Program) (bytes : Bytes b) (read : parsed plain b �
 
   -- what is written, where there is room
   module _ (out : List ℕ) (fits : length (aspif_text p) ≤ length out) where
-    written : exported plain b out ≡ record { answer = Length (length (aspif_text p)); buffer = write out 0 (aspif_text p) }
+    written : exported plain b out ≡ record { answer = Ok (length (aspif_text p)); buffer = write out 0 (aspif_text p) }
     unfolding exported aspif_bytes
     written =
-        ap (λ (r : Result Program). delivered (and_then r (λ q. accepted (aspif_text q))) out) read
-        ∙ ap (λ (r : Result (List ℕ)). delivered r out) (accepted-and-then p (λ q. accepted (aspif_text q))) ∙ delivered-fits (aspif_text p) out fits
+        ap (λ (r : Answer Program). delivered (and_then r (λ q. Ok (aspif_text q))) out) read
+        ∙ ap (λ (r : Answer (List ℕ)). delivered r out) (accepted-and-then p (λ q. Ok (aspif_text q))) ∙ delivered-fits (aspif_text p) out fits
 
     front : take (length (aspif_text p)) (write out 0 (aspif_text p)) ≡ aspif_text p
     front =
@@ -121,10 +121,10 @@ module _ (b : List ℕ) (p : Program) (bytes : Bytes b) (read : parsed plain b �
         }
 
 -- the word of an export tells refusals by its highest bit
-pub exported-told : (b out : List ℕ) → Bytes b → ToldWritten (exported plain b out).answer
+pub exported-told : (b out : List ℕ) → Bytes b → ToldCount (exported plain b out).answer
 unfolding exported aspif_bytes plain
 exported-told b out bytes =
     let m = 2 * plain.length + 29012 in
     told-delivered m (omega arith) (aspif_bytes plain b) out
-    (bounded-then m (parsed plain b) (λ q. accepted (aspif_text q)) (λ p e.
+    (bounded-then m (parsed plain b) (λ q. Ok (aspif_text q)) (λ p e.
     bounded m (aspif_text p) (omega (arith, text-bound b p bytes e, parsed-short plain b p e))))

@@ -1,6 +1,8 @@
 -- The words have room for every verdict: a position, a rule's number, a record's length.
 -- In order: parts; findings; checks. Assumes nothing.
 use Prim.Native.Nat.{ℕ, ◌+◌, ◌*◌, ◌≤◌, ◌<◌}
+use Rattle.check_set.specs.declared.Verdict.{Verdict}
+use Rattle.std.specs.Prelude.{Ok, Err}
 use native.Mathlib.Omega.{arith}
 use mathlib.Core.Path.{◌≡◌, refl, sym, ap, subst}
 use mathlib.Core.List.{List, ◌∷◌}
@@ -18,7 +20,7 @@ use Rattle.semantics.proofs.Laws.Expanded.{expanded-few}
 use Rattle.semantics.proofs.Laws.Verdict.{finding-clash, finding-broken, finding-smaller}
 use Rattle.record.specs.declared.Reason.TheVariants.{OutputShort}
 use Rattle.record.specs.Refusal.{refusal}
-use Rattle.record.specs.Result.{Result, accepted, refused, and_then, refuse_if}
+use Rattle.record.specs.Result.{Answer, and_then, refuse_if}
 use Rattle.record.specs.Reading.{parsed}
 use Rattle.record.proofs.Laws.Bounds.{parsed-placed}
 use Rattle.record.proofs.Laws.Places.{Placed}
@@ -27,7 +29,6 @@ use Rattle.set.specs.Reading.{parsed_set}
 use Rattle.set.proofs.Laws.Reading.{parsed-set-sound, keeps-set-most, length-encoded-set}
 use Rattle.set.proofs.Laws.Places.{parsed-set-placed}
 use Rattle.inputs.specs.Inputs.{with_inputs}
-use Rattle.check_set.specs.declared.Check.{Check}
 use Rattle.check_set.specs.Verdict.{verdict_of}
 use Rattle.check_set.specs.Check.{found, checked_of, checked}
 use Rattle.aspda_word.specs.Code.{ShortVerdict, ShortCheck}
@@ -52,38 +53,38 @@ module _ (p : Program) (ls : List Literal) (few : length p < 4294967296) (small 
 
 module _ (F : Limits) (long : F.length < 4294967296) (rules : F.rules + most_appended F < 4294967296) (sets : 4 + 5 * F.checked < 4294967296)
     (s k out : List ℕ) (bs : Bytes s) (bk : Bytes k) where
-  Short : Result Finding → Type 0
-  Short (accepted f) = ShortVerdict (verdict_of f)
-  Short (refused x) = x.place < 4294967296
+  Short : Answer Finding → Type 0
+  Short (Ok f) = ShortVerdict (verdict_of f)
+  Short (Err x) = x.place < 4294967296
 
   found-short : Short (found F s k out)
   unfolding found with_inputs and_then refuse_if Short
   found-short = go (parsed F s) refl (parsed-placed F s)
     where
-      room : (p : Program) (ls : List Literal) → parsed F s ≡ accepted p → parsed_set F F.checked k ≡ accepted ls → (b : Bool)
-          → Short (refuse_if b (refusal OutputShort 0) (accepted (finding p ls)))
+      room : (p : Program) (ls : List Literal) → parsed F s ≡ Ok p → parsed_set F F.checked k ≡ Ok ls → (b : Bool)
+          → Short (refuse_if b (refusal OutputShort 0) (Ok (finding p ls)))
       room p ls e q true = omega arith
       room p ls e q false =
           finding-short p ls (omega (arith, rules, expanded-few F p (parsed-expanded F s p bs e)))
           (omega (arith, sets, keeps-set-most F F.checked ls (parsed-set-sound F F.checked k ls bk q).1)) (finding p ls) refl
 
-      set : (p : Program) → parsed F s ≡ accepted p → (r : Result (List Literal)) → parsed_set F F.checked k ≡ r
+      set : (p : Program) → parsed F s ≡ Ok p → (r : Answer (List Literal)) → parsed_set F F.checked k ≡ r
           → Placed (4 + 5 * F.checked) r → Short
-          (and_then r (λ ls. refuse_if (ltb (length out) (length k)) (refusal OutputShort 0) (accepted (finding p ls))))
-      set p e (accepted ls) q h = room p ls e q (ltb (length out) (length k))
-      set p e (refused x) q h = omega (arith, h, sets)
+          (and_then r (λ ls. refuse_if (ltb (length out) (length k)) (refusal OutputShort 0) (Ok (finding p ls))))
+      set p e (Ok ls) q h = room p ls e q (ltb (length out) (length k))
+      set p e (Err x) q h = omega (arith, h, sets)
 
-      go : (r : Result Program) → parsed F s ≡ r → Placed F.length r
+      go : (r : Answer Program) → parsed F s ≡ r → Placed F.length r
           → Short (and_then r (λ p. and_then (parsed_set F F.checked k)
-          (λ ls. refuse_if (ltb (length out) (length k)) (refusal OutputShort 0) (accepted (finding p ls)))))
-      go (accepted p) e h = set p e (parsed_set F F.checked k) refl (parsed-set-placed F F.checked k)
-      go (refused x) e h = omega (arith, h, long)
+          (λ ls. refuse_if (ltb (length out) (length k)) (refusal OutputShort 0) (Ok (finding p ls)))))
+      go (Ok p) e h = set p e (parsed_set F F.checked k) refl (parsed-set-placed F F.checked k)
+      go (Err x) e h = omega (arith, h, long)
 
   -- a check's answer has room in its word
-  pub checked-short : (a : Check) → a ≡ (checked F s k out).answer → ShortCheck a
+  pub checked-short : (a : Answer Verdict) → a ≡ (checked F s k out).answer → ShortCheck a
   unfolding checked checked_of Short
   checked-short a e = subst ShortCheck (sym e) (go (found F s k out) found-short)
     where
-      go : (r : Result Finding) → Short r → ShortCheck (checked_of r out).answer
-      go (accepted f) h = h
-      go (refused x) h = h
+      go : (r : Answer Finding) → Short r → ShortCheck (checked_of r out).answer
+      go (Ok f) h = h
+      go (Err x) h = h

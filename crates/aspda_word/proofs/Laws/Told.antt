@@ -1,14 +1,13 @@
 -- A word tells a refusal by its highest bit, where what is no refusal has room below it. Assumes nothing.
 use Prim.Native.Nat.{ℕ, ◌^◌, ◌≤◌, ◌<◌}
+use Rattle.record_show.specs.declared.Extent.{Extent}
+use Rattle.record.specs.Result.{Answer}
+use Rattle.std.specs.Prelude.{Ok, Err}
 use native.Mathlib.Omega.{arith}
 use mathlib.Core.Path.{◌≡◌, refl}
 use Rattle.record.specs.declared.Refusal.{Refusal}
-use Rattle.record.specs.declared.Reading.{Reading}
-use Rattle.record.specs.declared.Written.{Written}
-use Rattle.record_show.specs.declared.Shown.{Shown}
 use Rattle.check_set.specs.declared.Verdict.{Verdict}
-use Rattle.check_set.specs.declared.Check.{Check}
-use Rattle.aspda_word.specs.Words.{refusal_word, reading_word, written_word, shown_word, verdict_word, check_word, Told, ToldReading, ToldWritten, ToldShown, ToldCheck}
+use Rattle.aspda_word.specs.Words.{refusal_word, count_word, shown_word, verdict_word, check_word, Told, ToldCount, ToldShown, ToldCheck}
 use Rattle.aspda_word.specs.Code.{ShortShown, ShortVerdict, ShortCheck}
 
 -- a refusal's word
@@ -23,22 +22,18 @@ verdict-small (Verdict.Smaller n) h = omega arith
 verdict-small Verdict.Yes h = omega arith
 
 -- an answer that is no refusal
-told-answer : {A : Type 0} (word : A → ℕ) (refused : Refusal → A) (a : A) → word a < 2 ^ 63 → ((x : Refusal) → a ≡ refused x → ⊥) → Told word refused a
-told-answer word refused a h n = (λ w. absurd (omega arith), λ w. absurd (n w.0 w.1))
+told-answer : {A : Type 0} (word : Answer A → ℕ) (a : A) → word (Ok a) < 2 ^ 63 → Told word (Ok a)
+told-answer word a h = (λ w. absurd (omega arith), λ w. let z : ◌≡◌ {A = ℕ} 0 1 = cc w.1 in absurd (omega (arith, z)))
 
 -- each kind of answer
-pub told-reading : (a : Reading) → ((n : ℕ) → a ≡ Reading.Count n → n < 2 ^ 63) → ToldReading a
-told-reading (Reading.Count n) h = told-answer reading_word Reading.Refused (Reading.Count n) (h n refl) (λ x e. let z : ◌≡◌ {A = ℕ} 0 1 = cc in omega arith)
-told-reading (Reading.Refused x) h = (λ w. (x, refl), λ w. refusal-large x)
+pub told-count : (a : Answer ℕ) → ((n : ℕ) → a ≡ Ok n → n < 2 ^ 63) → ToldCount a
+told-count (Ok n) h = told-answer count_word n (h n refl)
+told-count (Err x) h = (λ w. (x, refl), λ w. refusal-large x)
 
-pub told-written : (a : Written) → ((n : ℕ) → a ≡ Written.Length n → n < 2 ^ 63) → ToldWritten a
-told-written (Written.Length n) h = told-answer written_word Written.Refused (Written.Length n) (h n refl) (λ x e. let z : ◌≡◌ {A = ℕ} 0 1 = cc in omega arith)
-told-written (Written.Refused x) h = (λ w. (x, refl), λ w. refusal-large x)
+pub told-shown : (a : Answer Extent) → ShortShown a → ToldShown a
+told-shown (Ok e) h = told-answer shown_word e (omega arith)
+told-shown (Err x) h = (λ w. (x, refl), λ w. refusal-large x)
 
-pub told-shown : (a : Shown) → ShortShown a → ToldShown a
-told-shown (Shown.At e) h = told-answer shown_word Shown.Refused (Shown.At e) (omega arith) (λ x e. let z : ◌≡◌ {A = ℕ} 0 1 = cc in omega arith)
-told-shown (Shown.Refused x) h = (λ w. (x, refl), λ w. refusal-large x)
-
-pub told-check : (a : Check) → ShortCheck a → ToldCheck a
-told-check (Check.Found v) h = told-answer check_word Check.Refused (Check.Found v) (verdict-small v h) (λ x e. let z : ◌≡◌ {A = ℕ} 0 1 = cc in omega arith)
-told-check (Check.Refused x) h = (λ w. (x, refl), λ w. refusal-large x)
+pub told-check : (a : Answer Verdict) → ShortCheck a → ToldCheck a
+told-check (Ok v) h = told-answer check_word v (verdict-small v h)
+told-check (Err x) h = (λ w. (x, refl), λ w. refusal-large x)

@@ -1,6 +1,6 @@
 -- Laws of blocks of rules: so many rules from where a walk is on, their records, their lines, and the walk behind them.
 -- In order: what a block is; a block of no rule, of one rule more, of as many as are left; all rules gone; a block's lines, made and copied;
--- what a loop has written: nothing, a block more, all.
+-- what a loop has written: nothing, the next block, a block more, all.
 -- Assumes nothing.
 use Prim.Native.Nat.{ℕ, zero, suc, ◌+◌, ◌-◌, ◌≤◌, ◌<◌}
 use native.Mathlib.Omega.{arith}
@@ -9,13 +9,13 @@ use mathlib.Core.Path.{◌≡◌, refl, sym, ◌∙◌, ap, subst}
 use mathlib.Core.Bool.{Bool, true, false}
 use mathlib.Core.List.{List, [], ◌∷◌, ◌++◌, append_assoc, append-nil}
 use lib.Dec.{eqb, leb→le}
-use lib.ListN.{length, take, drop, length-append, length-take}
+use lib.ListN.{length, take, drop, length-append}
 use lib.Seq.{drop-drop}
 use borrow.Author.Tests.{eqb-true, eqb-false}
 use Rattle.buffer.specs.Write.{write, Wrote, Begun}
 use Rattle.semantics.specs.Rule.{Rule, Program}
 use Rattle.semantics.specs.Translation.{record_length}
-use Rattle.record_walk.specs.Code.{record_size}
+use Rattle.record_walk.specs.Code.{Holds, record_size}
 use Rattle.record_walk.proofs.Laws.Walk.{Walk, More, Along, walk-rule, next-keeps}
 use Rattle.aspif_place.specs.Code.{words}
 use Rattle.aspif_number.specs.Code.{records_size, record_part, places_at, literal_count, Room, Records, Rooms, Front, numbers_of}
@@ -23,7 +23,7 @@ use Rattle.aspif_number.proofs.Laws.Program.{next-room}
 use Rattle.aspif_text.specs.Text.{rule_line}
 use Rattle.aspif_rule.specs.Code.{ground_at, lines_at, lines_of}
 use Rattle.aspif_rule.proofs.Laws.Numbered.{lines-numbered}
-use Rattle.aspif.specs.Code.{is_short, Numberable, rule_lines}
+use Rattle.aspif.specs.Code.{is_short, Numberable, Fitting, rule_lines}
 use Rattle.aspif.proofs.Laws.Pass.{lines_none, lines_more, written_start, written-more}
 
 -- n rules from `at` on, where the part t starts: `block` stands behind the rules that are gone
@@ -82,7 +82,7 @@ module _ {bits s : List ℕ} {p gone : Program} {at : ℕ} {t : List ℕ} (ok : 
           rooms =
               below_next (λ i. Room words (places_at (record_part t i) 7 (literal_count (record_part t i)))) n b.rooms
               (next-room next ok.placed words refl);
-          lines = ap (λ (bs : List ℕ). bs ++ rule_line (ground_at bits (record_part t n))) b.lines ∙ sym (lines_more bits next b.block);
+          lines = ap (λ (bs : List ℕ). bs ++ rule_line (ground_at bits (record_part t n))) b.lines ∙ sym (lines_more bits next.the-rule next.starts b.block);
         }
       where
         few : literal_count (record_part t n) ≤ 64
@@ -108,10 +108,6 @@ module _ (bits t ns : List ℕ) (rules : ℕ) (front : Front ns (numbers_of bits
   pub made-long : n ≡ length (lines_at bits t rules)
   made-long = omega (arith, b.next, ap length (lines-numbered bits t ns rules front))
 
-  -- they are within the buffer that they are made in
-  pub made-within : n ≤ length made
-  made-within = omega (arith, ap length b.bytes, b.next, length-take n made)
-
   pub made-wrote : {d e : List ℕ} (to : ℕ) → e ≡ write d to (take n (drop 0 made)) → Wrote d e to (lines_at bits t rules) (to + n)
   made-wrote {d} to copied =
       record {
@@ -126,6 +122,12 @@ pub record Written (bits out₀ out : List ℕ) (to next rules left : ℕ) (gone
 
 pub written_none : (bits out : List ℕ) (to rules : ℕ) → Written bits out out to to rules rules []
 written_none bits out to rules = record { lines = written_start bits out to; count = add-zero rules }
+
+-- the next block, of at most as many rules as are left
+pub next-block : {bits s out₀ out : List ℕ} {rules to room at next left : ℕ} (w : Holds (Fitting rules bits to room) s)
+    (a : Along s w.program at (Written bits out₀ out to next rules left)) → (n : ℕ) → n ≤ left → (t : List ℕ) → t ≡ drop at s
+    → Block bits s w.program a.gone at t n
+next-block w a n few t part = block_of w.asked.counted.numberable part a.walk n (omega (arith, few, a.made.count, w.asked.counted.count))
 
 module _ {bits s out₀ out : List ℕ} {p : Program} {at to next rules left : ℕ} (a : Along s p at (Written bits out₀ out to next rules left)) where
   -- a block more

@@ -3,6 +3,7 @@
 -- program's own numbers; the refusals of reading; the form of plain programs.
 -- Assumes nothing.
 use Prim.Native.Nat.{ℕ, ◌≤◌, ◌<◌}
+use Rattle.std.specs.Prelude.{Ok, Err}
 use native.Mathlib.Omega.{arith}
 use mathlib.Core.Path.{◌≡◌, refl, sym, ap, subst}
 use mathlib.Core.List.{List}
@@ -13,13 +14,10 @@ use Rattle.buffer.specs.Write.{Wrote}
 use Rattle.literal.specs.declared.Limits.{Limits}
 use Rattle.literal.specs.Limits.{plain}
 use Rattle.semantics.specs.Rule.{Program}
-use Rattle.record.specs.declared.Reading.{Reading}
 use Rattle.record.specs.declared.Reason.TheVariants.{OutputShort}
 use Rattle.record.specs.declared.Refusal.{Refusal}
-use Rattle.record.specs.declared.Written.{Written}
-use Rattle.record.specs.declared.Written.TheVariants.{Length, Refused}
 use Rattle.record.specs.Refusal.{refusal}
-use Rattle.record.specs.Result.{Result, accepted, and_then, delivered}
+use Rattle.record.specs.Result.{Answer, and_then, delivered}
 use Rattle.record.specs.Layout.{keeps}
 use Rattle.record.specs.Reading.{parsed, reading}
 use Rattle.record.specs.Meets.{Meets}
@@ -79,31 +77,31 @@ measured-fits w h = record { program = w.program; bytes = w.bytes; asked = recor
 
 module _ (bits : List ℕ) (p : Program) (out : List ℕ) where
   -- 9 where the buffer is shorter than the text
-  pub short-met : (n : ℕ) → n ≡ length (text_in bits p) → length out < n → Meets (outcome_in bits p out) (Refused (refusal OutputShort 0)) out
+  pub short-met : (n : ℕ) → n ≡ length (text_in bits p) → length out < n → Meets (outcome_in bits p out) (Err (refusal OutputShort 0)) out
   unfolding outcome_in
-  short-met n e h = meets-short (accepted (text_in bits p)) out (text_in bits p) refl (omega (arith, e))
+  short-met n e h = meets-short (Ok (text_in bits p)) out (text_in bits p) refl (omega (arith, e))
 
   -- the text
-  pub text-met : (e : List ℕ) (r : ℕ) → length (text_in bits p) ≤ length out → Wrote out e 0 (text_in bits p) r → Meets (outcome_in bits p out) (Length r) e
+  pub text-met : (e : List ℕ) (r : ℕ) → length (text_in bits p) ≤ length out → Wrote out e 0 (text_in bits p) r → Meets (outcome_in bits p out) (Ok r) e
   unfolding outcome_in
-  text-met e r h w = meets-written (accepted (text_in bits p)) out (text_in bits p) refl h r e (omega (arith, w.next)) w.bytes
+  text-met e r h w = meets-written (Ok (text_in bits p)) out (text_in bits p) refl h r e (omega (arith, w.next)) w.bytes
 
 -- by its own numbers
-pub own-numbers : (F : Limits) → Exportable F → (p : Program) → T (keeps F p) → (bits : List ℕ) → Marks p bits → (out : List ℕ) {r : Written} {e : List ℕ}
+pub own-numbers : (F : Limits) → Exportable F → (p : Program) → T (keeps F p) → (bits : List ℕ) → Marks p bits → (out : List ℕ) {r : Answer ℕ} {e : List ℕ}
     → Meets (outcome_in bits p out) r e → Meets (outcome_of p out) r e
 unfolding outcome_in outcome_of
-own-numbers F ok p k bits marks out {r} {e} m = subst (λ (bs : List ℕ). Meets (delivered (accepted bs) out) r e) (text-marked F ok p k bits marks) m
+own-numbers F ok p k bits marks out {r} {e} m = subst (λ (bs : List ℕ). Meets (delivered (Ok bs) out) r e) (text-marked F ok p k bits marks) m
 
 module _ (F : Limits) (s out : List ℕ) where
   -- what reading refuses, exporting does
-  pub refused-met : (x : Refusal) → reading F s ≡ Reading.Refused x → Meets (exported F s out) (Refused x) out
+  pub refused-met : (x : Refusal) → reading F s ≡ Err x → Meets (exported F s out) (Err x) out
   unfolding exported aspif_bytes and_then
   refused-met x e =
       meets-refused (aspif_bytes F s) out x
-      (ap (λ (q : Result Program). and_then q (λ p. accepted (aspif_text p))) (parsed-refused F s x (reading-refused F s x e)))
+      (ap (λ (q : Answer Program). and_then q (λ p. Ok (aspif_text p))) (parsed-refused F s x (reading-refused F s x e)))
 
-  module _ (none : F.sheets ≡ 0) (bytes : Bytes s) (count : ℕ) (e : reading F s ≡ Reading.Count count) where
-    told : (p : Program) × (parsed F s ≡ accepted p) × (length p ≡ count)
+  module _ (none : F.sheets ≡ 0) (bytes : Bytes s) (count : ℕ) (e : reading F s ≡ Ok count) where
+    told : (p : Program) × (parsed F s ≡ Ok p) × (length p ≡ count)
     told = reading-rules F s none bytes count e
 
     -- the program that was read
@@ -111,13 +109,13 @@ module _ (F : Limits) (s out : List ℕ) where
     given = holds_read (Within F count) F none s told.0 bytes told.1 (λ k. record { kept = k; count = told.2 })
 
     -- what is delivered of it is the outcome
-    pub given-met : {r : Written} {d : List ℕ} → Meets (outcome_of given.program out) r d → Meets (exported F s out) r d
+    pub given-met : {r : Answer ℕ} {d : List ℕ} → Meets (outcome_of given.program out) r d → Meets (exported F s out) r d
     unfolding exported aspif_bytes outcome_of and_then given
     given-met {r} {d} m =
-        subst (λ (q : Result Program). Meets (delivered (and_then q (λ p. accepted (aspif_text p))) out) r d) (sym told.1) m
+        subst (λ (q : Answer Program). Meets (delivered (and_then q (λ p. Ok (aspif_text p))) out) r d) (sym told.1) m
 
 -- the same limits have the same outcome
-pub meets-same : (F G : Limits) (s out : List ℕ) {r : Written} {e : List ℕ} → F ≡ G → Meets (exported F s out) r e → Meets (exported G s out) r e
+pub meets-same : (F G : Limits) (s out : List ℕ) {r : Answer ℕ} {e : List ℕ} → F ≡ G → Meets (exported F s out) r e → Meets (exported G s out) r e
 meets-same F G s out {r} {e} same m = subst (λ (H : Limits). Meets (exported H s out) r e) same m
 
 -- plain programs can be exported

@@ -1,5 +1,5 @@
 -- Laws of the passes over a program that was read: the lines of one rule more, and that there is room for them.
--- In order: lines of rules; a record that can be read in numbers; what measuring and writing have made of the rules that are gone.
+-- In order: lines of rules; what measuring and writing have made of the rules that are gone.
 -- Assumes nothing.
 use Prim.Native.Nat.{ℕ, ◌+◌, ◌*◌, ◌≤◌}
 use native.Mathlib.Omega.{arith}
@@ -11,16 +11,16 @@ use Rattle.buffer.specs.Write.{Wrote}
 use Rattle.buffer.proofs.Laws.Write.{write-nil}
 use Rattle.buffer.proofs.Laws.Writing.{wrote_then}
 use Rattle.semantics.specs.Rule.{Rule, Program}
-use Rattle.record_walk.specs.Code.{record_size}
-use Rattle.record_walk.proofs.Laws.Walk.{Walk, More}
+use Rattle.record_walk.specs.Code.{record_size, Starts}
+use Rattle.record_walk.specs.Records.{Front}
+use Rattle.record_walk.proofs.Laws.Records.{Next}
+use Rattle.record_walk.proofs.Laws.Walk.{Walk}
 use Rattle.aspif_meaning.specs.Ground.{GroundRule}
 use Rattle.aspif_meaning.specs.Program.{numbered}
 use Rattle.aspif_text.specs.Text.{rule, rule_line, line, lines}
 use Rattle.aspif_text.proofs.Laws.Statements.{lines-append}
 use Rattle.aspif_place.specs.Code.{number_in}
-use Rattle.aspif_number.specs.Code.{Placed}
-use Rattle.aspif_number.proofs.Laws.Program.{next-room}
-use Rattle.aspif_rule.specs.Code.{Ready, Readable, ground_at, Long}
+use Rattle.aspif_rule.specs.Code.{ground_at, Long}
 use Rattle.aspif_rule.proofs.Laws.Ground.{rule-ground}
 use Rattle.aspif.specs.Code.{rule_lines}
 
@@ -41,36 +41,32 @@ module _ (bits : List ℕ) where
   unfolding rule_lines lines line
   lines-one r q = refl
 
-  module _ {s : List ℕ} {p gone : Program} {at : ℕ} {t : List ℕ} (m : More s p gone at t) where
-    -- the next rule's line
-    here : rule_line (ground_at bits t) ≡ rule_line (numbered (number_in bits) m.the-rule)
-    here = ap rule_line (rule-ground bits t m.the-rule m.starts)
+  module _ {t : List ℕ} (r : Rule) (starts : Starts t r) where
+    -- the line of the rule whose record starts t
+    here : rule_line (ground_at bits t) ≡ rule_line (numbered (number_in bits) r)
+    here = ap rule_line (rule-ground bits t r starts)
 
-    -- the lines of some rules and of the next one
-    pub lines_more : (q : Program) → rule_lines bits (q ++ m.the-rule ∷ []) ≡ rule_lines bits q ++ rule_line (ground_at bits t)
+    -- the lines of some rules and of that one
+    pub lines_more : (q : Program) → rule_lines bits (q ++ r ∷ []) ≡ rule_lines bits q ++ rule_line (ground_at bits t)
     lines_more q =
-        lines_of q (m.the-rule ∷ []) ∙ ap (λ (bs : List ℕ). rule_lines bits q ++ bs)
-        (lines-one m.the-rule [] ∙ ap (λ (bs : List ℕ). rule_line (numbered (number_in bits) m.the-rule) ++ bs) lines_none
-        ∙ append-nil (rule_line (numbered (number_in bits) m.the-rule)) ∙ sym here)
+        lines_of q (r ∷ []) ∙ ap (λ (bs : List ℕ). rule_lines bits q ++ bs)
+        (lines-one r [] ∙ ap (λ (bs : List ℕ). rule_line (numbered (number_in bits) r) ++ bs) lines_none
+        ∙ append-nil (rule_line (numbered (number_in bits) r)) ∙ sym here)
 
-    -- its record can be read in numbers
-    pub next-readable : (counts : List ℕ) → Placed p → Ready bits counts → Readable bits t
-    next-readable counts placed ready = record { whole = m.whole; room = next-room m placed (length bits) ready.whole }
-
--- what measuring has made of the rules that are gone
-pub record Measured (bits : List ℕ) (at total : ℕ) (gone : Program) : Type 0 where
+-- what measuring has made of the rules that are gone, whose records stood before `rest`
+pub record Measured (bits s rest : List ℕ) (total : ℕ) (gone : Program) : Type 0 where
   pub long : total ≡ length (rule_lines bits gone)
-  pub short : total ≤ 12 * at
+  pub short : total + 12 * length rest ≤ 12 * length s
 
-pub measured-start : (bits : List ℕ) → Measured bits 0 0 []
-measured-start bits = record { long = sym (ap length (lines_none bits)); short = omega arith }
+pub measured-start : (bits s rest : List ℕ) → rest ≡ s → Measured bits s rest 0 []
+measured-start bits s rest e = record { long = sym (ap length (lines_none bits)); short = omega (arith, ap length e) }
 
-pub measured-next : {bits s t : List ℕ} {p gone : Program} {at total : ℕ} (m : More s p gone at t) → Measured bits at total gone → (r n : ℕ)
-    → Long r (rule_line (ground_at bits t)) (12 * record_size t) → n ≡ record_size t → Measured bits (at + n) (total + r) (gone ++ m.the-rule ∷ [])
-measured-next {bits} {t = t} {gone = gone} m w r n long size =
+pub measured-next : {bits s rest t next : List ℕ} {p gone : Program} {total : ℕ} (m : Next p gone t) → Measured bits s rest total gone → Front rest t next
+    → (r : ℕ) → Long r (rule_line (ground_at bits t)) (12 * record_size t) → Measured bits s next (total + r) (gone ++ m.the-rule ∷ [])
+measured-next {bits} {t = t} {next} {gone = gone} m w front r long =
     record {
-      long = omega (arith, w.long, long.long, ap length (lines_more bits m gone), length-append (rule_lines bits gone) (rule_line (ground_at bits t)));
-      short = omega (arith, w.short, long.short, size);
+      long = omega (arith, w.long, long.long, ap length (lines_more bits m.the-rule m.starts gone), length-append (rule_lines bits gone) (rule_line (ground_at bits t)));
+      short = omega (arith, w.short, long.short, m.whole, ap length front.bytes, length-append t next);
     }
 
 -- what writing has: the lines of the rules that are gone, right behind what stood there

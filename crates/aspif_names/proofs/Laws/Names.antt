@@ -1,5 +1,5 @@
 -- Laws of names: the line of one, byte by byte, its length, and how it is written; what a place has, and the lines of all places.
--- In order: where a row starts; the line; its length; written; a place that has one, a place that has none; all places.
+-- In order: the line; its length; written; a place that has one, a place that has none; all places.
 -- Assumes nothing.
 use Prim.Native.Nat.{ℕ, zero, suc, ◌+◌, ◌≤◌, ◌<◌}
 use native.Mathlib.Omega.{arith}
@@ -18,12 +18,6 @@ use Rattle.aspif_text.proofs.Laws.Statements.{lines-append}
 use Rattle.aspif_place.specs.Code.{row_places, marked, number_at_place, names_from}
 use Rattle.aspif_rule.specs.Code.{Long}
 use Rattle.aspif_names.specs.Code.{signed, letter_of, row_from, name_line, name_at, name_lines, places_from}
-
--- a row of atoms starts within two rows
-pub row-most : (negated : Bool) → row_from negated ≤ row_places
-unfolding row_from
-row-most false = omega arith
-row-most true = omega arith
 
 -- ` 1`, the number, the line's end
 abbrev number_text : ℕ → List ℕ

@@ -12,18 +12,18 @@ use Rattle.buffer.proofs.Laws.Writing.{Writing, wrote, writing_start, writing-ne
 use Rattle.decimal.specs.Decimal.{decimal, decimal_with}
 use Rattle.aspif_meaning.specs.Ground.{GroundProgram}
 use Rattle.aspif_meaning.specs.Program.{never_both}
-use Rattle.aspif_text.specs.Text.{rule, blank, line_end, field, fields, body_text, rule_line, line, lines}
+use Rattle.aspif_text.specs.Text.{rule, line_end, field, fields, body_text, rule_line, line, lines}
 use Rattle.aspif_text.proofs.Laws.Statements.{lines-append}
 use Rattle.aspif_place.specs.Code.{row_places, marked, number_at_place, pairs_from}
 use Rattle.aspif_rule.specs.Code.{Long}
-use Rattle.aspif_names.specs.Code.{both_ways, pair_at, pair_lines, places_from}
+use Rattle.aspif_names.specs.Code.{both_ways, pair_start, pair_at, pair_lines, places_from}
 
 -- `1 0 0 0 2`, the two numbers, the line's end
 abbrev numbers_text : ℕ → ℕ → List ℕ
 numbers_text n m = field false n ++ (field false m ++ (line_end ∷ []))
 
 abbrev pair_text : ℕ → ℕ → List ℕ
-pair_text n m = 0x31 ∷ blank ∷ 0x30 ∷ blank ∷ 0x30 ∷ blank ∷ 0x30 ∷ blank ∷ 0x32 ∷ numbers_text n m
+pair_text n m = pair_start ++ numbers_text n m
 
 pair-numbers : (n m : ℕ) → fields false (n ∷ m ∷ []) ++ (fields true [] ++ (line_end ∷ [])) ≡ numbers_text n m
 unfolding fields
@@ -34,7 +34,7 @@ pair-numbers n m =
 pair-text : (n m : ℕ) → rule_line (never_both n m) ≡ pair_text n m
 unfolding rule_line never_both body_text fields field decimal decimal_with
 pair-text n m =
-    ap (λ (bs : List ℕ). 0x31 ∷ blank ∷ 0x30 ∷ blank ∷ 0x30 ∷ blank ∷ 0x30 ∷ blank ∷ 0x32 ∷ bs) (pair-numbers n m)
+    ap (λ (bs : List ℕ). pair_start ++ bs) (pair-numbers n m)
 
 pub pair-length : (n m : ℕ) → length (rule_line (never_both n m)) ≡ 10 + (length (field false n) + length (field false m))
 pair-length n m =
@@ -53,23 +53,14 @@ module _ (n m : ℕ) {d : List ℕ} {to : ℕ} (h : to + length (rule_line (neve
   start : Writing d d to to (rule_line (never_both n m)) (pair_text n m)
   start = subst (Writing d d to to (rule_line (never_both n m))) (pair-text n m) (writing_start d to (rule_line (never_both n m)) h)
 
-  -- a byte, four words, two fields, the line's end
-  pub pair-wrote : {d₁ d₂ d₃ d₄ d₅ d₆ d₇ d₈ : List ℕ} {r₂ r₃ r₄ r₅ r₆ r₇ r₈ : ℕ} → d₁ ≡ write d to (0x31 ∷ [])
-      → Wrote d₁ d₂ (to + 1) (blank ∷ 0x30 ∷ []) r₂ → Wrote d₂ d₃ r₂ (blank ∷ 0x30 ∷ []) r₃ → Wrote d₃ d₄ r₃ (blank ∷ 0x30 ∷ []) r₄
-      → Wrote d₄ d₅ r₄ (blank ∷ 0x32 ∷ []) r₅ → Wrote d₅ d₆ r₅ (field false n) r₆ → Wrote d₆ d₇ r₆ (field false m) r₇
-      → Wrote d₇ d₈ r₇ (line_end ∷ []) r₈ → Wrote d d₈ to (rule_line (never_both n m)) r₈
-  pair-wrote v₁ v₂ v₃ v₄ v₅ v₆ v₇ v₈ =
-      let count = blank ∷ 0x32 ∷ numbers_text n m in
-      let weights = blank ∷ 0x30 ∷ count in
-      let heads = blank ∷ 0x30 ∷ weights in
-      let w₁ = writing-next (0x31 ∷ []) (blank ∷ 0x30 ∷ heads) start (wrote to (0x31 ∷ []) (to + 1) v₁ refl) in
-      let w₂ = writing-next (blank ∷ 0x30 ∷ []) heads w₁ v₂ in
-      let w₃ = writing-next (blank ∷ 0x30 ∷ []) weights w₂ v₃ in
-      let w₄ = writing-next (blank ∷ 0x30 ∷ []) count w₃ v₄ in
-      let w₅ = writing-next (blank ∷ 0x32 ∷ []) (numbers_text n m) w₄ v₅ in
-      let w₆ = writing-next (field false n) (field false m ++ (line_end ∷ [])) w₅ v₆ in
-      let w₇ = writing-next (field false m) (line_end ∷ []) w₆ v₇ in
-      writing-end (writing-next (line_end ∷ []) [] w₇ v₈)
+  -- its start, two fields, the line's end
+  pub pair-wrote : {d₁ d₂ d₃ d₄ : List ℕ} {r₂ r₃ r₄ : ℕ} → d₁ ≡ write d to pair_start → Wrote d₁ d₂ (to + 9) (field false n) r₂
+      → Wrote d₂ d₃ r₂ (field false m) r₃ → Wrote d₃ d₄ r₃ (line_end ∷ []) r₄ → Wrote d d₄ to (rule_line (never_both n m)) r₄
+  pair-wrote v₁ v₂ v₃ v₄ =
+      let w₁ = writing-next pair_start (numbers_text n m) start (wrote to pair_start (to + 9) v₁ refl) in
+      let w₂ = writing-next (field false n) (field false m ++ (line_end ∷ [])) w₁ v₂ in
+      let w₃ = writing-next (field false m) (line_end ∷ []) w₂ v₃ in
+      writing-end (writing-next (line_end ∷ []) [] w₃ v₄)
 
 -- whether an atom is marked both ways
 module _ (bits : List ℕ) (a : ℕ) where

@@ -5,24 +5,10 @@ use Prim.Native.Nat.{ℕ, zero, suc, ◌+◌, ◌*◌, ◌≤◌, ◌<◌}
 use native.Mathlib.Omega.{arith}
 use mathlib.Core.Path.{◌≡◌, refl, sym, ap, subst, ◌∙◌}
 use mathlib.Core.List.{List, ◌++◌, map}
-use lib.ListN.{length, drop, length-append, length-drop, length-map}
+use lib.ListN.{length, drop, length-append, length-map}
 use Rattle.record_walk.specs.Code.{record_size}
 use Rattle.aspif_place.specs.Code.{number_at_place}
-use Rattle.aspif_number.specs.Code.{
-  places_at,
-  literal_count,
-  Room,
-  records_size,
-  record_part,
-  records_literals,
-  Records,
-  Rooms,
-  numbers_of,
-  Front,
-  Gathered,
-  Gathers,
-  Finished,
-}
+use Rattle.aspif_number.specs.Code.{places_at, literal_count, records_size, record_part, records_literals, Records, numbers_of, Front, Gathered, Gathers, Finished}
 use Rattle.aspif_number.proofs.Laws.Place.{length-places}
 use Rattle.aspif_number.proofs.Laws.Finish.{finished-front}
 
@@ -76,28 +62,16 @@ numbering_start t bits rules d e = record {
   gathered = record { sum = λ k h. absurd (omega arith); low = λ k h. absurd (omega arith) };
 }
 
--- the record that starts `here`, at `at` in t: it is whole, its literals have room, and so have their numbers, behind k others
-pub record Next (t bits : List ℕ) (rules at k : ℕ) (here : List ℕ) : Type 0 where
-  pub whole : record_size here ≤ length here
-  pub fits : at + record_size here ≤ length t
-  pub few : k + literal_count here ≤ 64 * rules
-  pub room : Room (length bits) (places_at here 7 (literal_count here))
-
 module _ {t bits d e f g : List ℕ} {rules at k n : ℕ} (b : Numbering t bits rules d e f g at k n) (w : Records t rules) where
   module _ (h : n < rules) (here : List ℕ) (told : here ≡ drop at t) where
     here-part : here ≡ record_part t n
     here-part = told ∙ ap (λ (i : ℕ). drop i t) b.ends
 
-    pub numbering-more : Rooms (length bits) t rules → Next t bits rules at k here
-    numbering-more rooms =
-        let whole = subst (λ (x : List ℕ). record_size x ≤ length x) (sym here-part) (w.whole n h) in
+    -- there is room for its numbers
+    pub numbering-few : k + literal_count here ≤ 64 * rules
+    numbering-few =
         let few = subst (λ (x : List ℕ). literal_count x ≤ 64) (sym here-part) (w.few n h) in
-        record {
-          whole = whole;
-          fits = omega (arith, whole, ap length told, length-drop at t);
-          few = omega (arith, few, b.many, length-numbers bits t n, literals-few w n b.within);
-          room = subst (λ (x : List ℕ). Room (length bits) (places_at x 7 (literal_count x))) (sym here-part) (rooms n h);
-        }
+        omega (arith, few, b.many, length-numbers bits t n, literals-few w n b.within)
 
     pub numbering-next : (count : ℕ) → count ≡ literal_count here → (x y : List ℕ) → length x ≡ length f → length y ≡ length g
         → Gathers f g x y k (map (number_at_place bits) (places_at here 7 count)) → (size : ℕ) → size ≡ record_size here

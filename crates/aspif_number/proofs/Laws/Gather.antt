@@ -72,11 +72,6 @@ pub record Gathering (s bits : List ℕ) (from count to : ℕ) (d e f g : List �
   pub room : Room (length bits) (places_at s at left)
   pub rest : (x y : List ℕ) → Gathers f g x y k (numbered bits (places_at s at left)) → Gathers d e x y to (numbered bits (places_at s from count))
 
-pub gathering-start : (s bits : List ℕ) (from count to : ℕ) (d e : List ℕ) → from + 5 * count ≤ length s → Room (length bits) (places_at s from count)
-    → Gathering s bits from count to d e d e from count to
-gathering-start s bits from count to d e fits room =
-    record { same-masks = refl; same_numbers = refl; fits = fits; within = refl; room = room; rest = λ x y a. a }
-
 module _ {s bits d e f g : List ℕ} {from count to at left k : ℕ} (run : Gathering s bits from count to d e f g at left k) where
   pub gathering-place : 0 < left → place_at (drop at s) < 64 * length bits
   gathering-place h = room-first (length bits) s at left run.room h
@@ -108,3 +103,8 @@ module _ {s bits d e f g : List ℕ} {from count to at left k : ℕ} (run : Gath
   pub gathering-end : left ≤ 0 → Gathers d e f g to (numbered bits (places_at s from count))
   gathering-end h =
       run.rest f g (subst (λ (ks : List ℕ). Gathers f g f g k (numbered bits ks)) (sym (places-none s at left h)) (gathers-none f g k))
+
+-- the same place told by other numbers
+pub gathering-told : {s bits d e f g : List ℕ} {from count to at left k : ℕ} → Gathering s bits from count to d e f g at left k
+    → (i m j : ℕ) → i ≡ at → m ≡ left → j ≡ k → Gathering s bits from count to d e f g i m j
+gathering-told run i m j p q r = rw (p, q, r) run

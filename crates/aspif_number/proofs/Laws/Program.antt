@@ -67,13 +67,17 @@ pub gained-start : (d : List ℕ) → Gained d d (map place (occurring []))
 unfolding occurring
 gained-start d = gained-none d
 
+-- the places of the literals of a rule whose record starts t are among the words
+pub rule-room : {p : Program} {t : List ℕ} (gone behind : Program) (r : Rule) → Placed p → p ≡ gone ++ r ∷ behind → Starts t r
+    → Room words (places_at t 7 (literal_count t))
+rule-room {t = t} gone behind r placed split starts =
+    let here = placed-rule gone behind r (subst Placed split placed) in
+    rw (rule-places t r starts) (along (sym (all_map (λ k. ltb k (64 * words)) place (rule_literals r))) here)
+
 module _ {s t : List ℕ} {p gone : Program} {at : ℕ} (m : More s p gone at t) where
-  -- the places of the next record's literals are among the words
+  -- so are those of the next record
   pub next-room : Placed p → (n : ℕ) → n ≡ words → Room n (places_at t 7 (literal_count t))
-  next-room placed n e =
-      let r = m.the-rule in
-      let here = placed-rule gone m.behind r (subst Placed m.split placed) in
-      rw (e, rule-places t r m.starts) (along (sym (all_map (λ k. ltb k (64 * words)) place (rule_literals r))) here)
+  next-room placed n e = rw e (rule-room gone m.behind m.the-rule placed m.split m.starts)
 
   -- with them marked, those of one rule more are
   pub gained-next : {d e f : List ℕ} → Gained d e (map place (occurring gone)) → Gained e f (places_at t 7 (literal_count t))

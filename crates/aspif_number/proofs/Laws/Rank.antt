@@ -12,8 +12,8 @@ use lib.Count.{ones, ones-le}
 use lib.ListN.{length, get_or}
 use Rattle.mask.specs.Code.{has}
 use Rattle.mask.proofs.Laws.Place.{ones-suc}
-use Rattle.aspif_place.specs.Code.{words, marked, marked_below}
-use Rattle.aspif_number.specs.Code.{Empty, Tallied, Few, sum_of, Sums, Summed}
+use Rattle.aspif_place.specs.Code.{marked, marked_below}
+use Rattle.aspif_number.specs.Code.{Empty, Tallied, sum_of, Sums, Summed}
 
 ones-zero : ones 0 ≡ 0
 unfolding ones
@@ -78,9 +78,6 @@ empty-tallied bits counts same none zero-counts =
 -- a word's tally is at most its places
 pub tally-low : {bits counts : List ℕ} → Tallied bits counts → (w : ℕ) → get_or bits w 0 < 2 ^ 64 → get_or counts w 0 ≤ 64
 tally-low {bits} t w h = omega (arith, t.tally w, ones-le 64 (get_or bits w 0) h)
-
-pub tallied-few : {bits counts : List ℕ} → Tallied bits counts → length bits ≤ words → ((w : ℕ) → get_or bits w 0 < 2 ^ 64) → Few counts
-tallied-few t short fits = record { short = omega (arith, t.same); low = λ w. tally-low t w (fits w) }
 
 -- the sum of the words' tallies is the count of the marks below
 module _ (bits counts : List ℕ) (t : Tallied bits counts) (fits : (w : ℕ) → get_or bits w 0 < 2 ^ 64) where

@@ -26,8 +26,5 @@ module _ (n : ℕ) (s : List ℕ) (at left : ℕ) (room : Room n (places_at s at
 
 -- a run told by another count, which is the same
 module _ (s : List ℕ) (from k count : ℕ) (e : k ≡ count) where
-  pub room-told : (n : ℕ) → Room n (places_at s from count) → Room n (places_at s from k)
-  room-told n room = rw e room
-
   pub gained-told : {d f : List ℕ} → Gained d f (places_at s from k) → Gained d f (places_at s from count)
   gained-told g = rw e at g

@@ -1,5 +1,5 @@
 -- Sums of counts, made in their place: the first w are sums already, the others are counts yet.
--- In order: one count more; sums of few are low; a loop that sums: its start, a count more, its end.
+-- In order: one count more; sums of few are low; a loop that sums: its start, a count more.
 -- Assumes nothing.
 use Prim.Native.Nat.{ℕ, zero, suc, ◌+◌, ◌*◌, ◌≤◌, ◌<◌}
 use native.Mathlib.Omega.{arith}
@@ -10,7 +10,7 @@ use lib.Dec.{eqb}
 use lib.ListN.{length, get_or, set, length-set}
 use lib.Seq.{get_or-set_same, get_or-set_other}
 use borrow.Author.Tests.{eqb-true, eqb-false}
-use Rattle.aspif_number.specs.Code.{Few, sum_of, Sums}
+use Rattle.aspif_number.specs.Code.{Few, sum_of}
 
 sum-none : (counts : List ℕ) → sum_of counts 0 ≡ 0
 unfolding sum_of
@@ -59,6 +59,3 @@ module _ {d e : List ℕ} {sum w : ℕ} (s : Summing d e sum w) where
   -- the next sum fits
   pub summing-low : Few d → w < length d → sum + get_or e w 0 ≤ 411136
   summing-low f h = omega (arith, s.total, s.left w (omega arith), sum_low d f w, f.low w, f.short)
-
-  pub summing-end : length d ≤ w → Sums d e
-  summing-end h = record { same = s.same; sum = λ v g. s.done v (omega arith) }

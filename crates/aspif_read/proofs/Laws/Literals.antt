@@ -2,6 +2,7 @@
 -- In order: the place of a literal that the form takes; where the loop is; its start; one literal more; a wrong one; the end.
 -- Assumes nothing.
 use Prim.Native.Nat.{ℕ, ◌+◌, ◌*◌, ◌-◌, ◌≤◌, ◌<◌}
+use Rattle.std.specs.Prelude.{Ok, Err}
 use native.Mathlib.Omega.{arith}
 use mathlib.Core.Path.{◌≡◌, refl, sym, ◌∙◌, ap, subst}
 use mathlib.Core.Bool.{Bool, true, false, cond, true≢false}
@@ -13,7 +14,6 @@ use Rattle.literal.specs.Literal.{Decoded, Valid, Wrong, takes, spelled, within,
 use Rattle.literal.specs.Code.{is_valid}
 use Rattle.literal.proofs.Laws.Literal.{fields-spelled, valid-some, valid-none}
 use Rattle.record.specs.declared.Reason.TheVariants.{LiteralWrong}
-use Rattle.record.specs.declared.Run.{Run}
 use Rattle.record.specs.Refusal.{refusal}
 use Rattle.record.specs.Reading.{literals_at}
 use Rattle.record.specs.Code.{run_of}
@@ -68,11 +68,11 @@ module _ {F : Limits} {t d e counts : List ℕ} {count at left : ℕ} (m : Marki
       }
 
   -- a wrong one
-  pub marking-wrong : 0 < left → is_valid (decoded F (drop at t)) ≡ false → run_of (literals_at F t 7 count) ≡ Run.Refused (refusal LiteralWrong at)
+  pub marking-wrong : 0 < left → is_valid (decoded F (drop at t)) ≡ false → run_of (literals_at F t 7 count) ≡ Err (refusal LiteralWrong at)
   marking-wrong more wrong = m.run ∙ run-wrong F t at left more (valid-none _ wrong)
 
   -- none left
-  pub marking-right : left ≤ 0 → run_of (literals_at F t 7 count) ≡ Run.Right
+  pub marking-right : left ≤ 0 → run_of (literals_at F t 7 count) ≡ Ok tt
   marking-right none = m.run ∙ run-nil F t at left none
 
   pub marking-gained : left ≤ 0 → Gained d e (places_at t 7 count)

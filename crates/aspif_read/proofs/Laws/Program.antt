@@ -2,6 +2,8 @@
 -- In order: the letter of a rule's record, and of the end record; where the loop is; its start; a rule more; the end; a refusal.
 -- Assumes nothing.
 use Prim.Native.Nat.{ℕ, ◌+◌, ◌*◌, ◌≤◌, ◌<◌}
+use Rattle.record.specs.Result.{Answer}
+use Rattle.std.specs.Prelude.{Ok, Err, None, Some, Option}
 use native.Mathlib.Omega.{arith}
 use native.Mathlib.Nat.{add-zero}
 use mathlib.Core.Path.{◌≡◌, refl, sym, ap, subst, ◌∙◌}
@@ -14,16 +16,13 @@ use Rattle.buffer.proofs.Laws.Bytes.{bytes_drop}
 use Rattle.literal.specs.declared.Limits.{Limits}
 use Rattle.semantics.specs.Rule.{Rule, strict, defeasible}
 use Rattle.semantics.specs.Item.{Item, rule, override, opposition}
-use Rattle.record.specs.declared.Reading.{Reading}
 use Rattle.record.specs.declared.Reason.TheVariants.{TooLong}
 use Rattle.record.specs.declared.Refusal.{Refusal}
 use Rattle.record.specs.declared.Step.{Step}
 use Rattle.record.specs.declared.Held.{Held}
-use Rattle.record.specs.declared.Found.{Found}
 use Rattle.record.specs.Header.{end_letter, letter_of}
 use Rattle.record.specs.Layout.{encoded_end, encoded_item}
 use Rattle.record.specs.Refusal.{refusal, shifted}
-use Rattle.record.specs.Result.{accepted}
 use Rattle.record.specs.Reading.{item, end, record_at, nothing, holding, items, holding_of, reading}
 use Rattle.record.specs.Code.{step_of, found_of, total, left, rule_count}
 use Rattle.record.proofs.Laws.Places.{found-place}
@@ -41,7 +40,7 @@ use Rattle.aspif_read.proofs.Laws.Body.{rule-marked, end_marked}
 
 module _ (F : Limits) (h : Held) (fitting : Fitting F h) (t : List ℕ) (bytes : Bytes t) where
   -- an item that is read, with what is held then
-  item-read : (i : Item) (size : ℕ) → record_at F h t ≡ accepted (item i size) → ItemRead F h t i size
+  item-read : (i : Item) (size : ℕ) → record_at F h t ≡ Ok (item i size) → ItemRead F h t i size
   item-read i size e = go (record-sound F h fitting t bytes (item i size) e)
     where
       go : EntryItem F h t (item i size) ⊎ ((end ≡ item i size) × (t ≡ encoded_end h.rules)) → ItemRead F h t i size
@@ -53,8 +52,8 @@ module _ (F : Limits) (h : Held) (fitting : Fitting F h) (t : List ℕ) (bytes :
       go (inr q) = let same = q.0 in let z : ◌≡◌ {A = ℕ} 0 1 = cc in absurd (omega (arith, z))
 
   -- in a form without sheets it is a rule, whose record does not start with E
-  pub only-rule : F.sheets ≡ 0 → (i : Item) (size : ℕ) → record_at F h t ≡ accepted (item i size)
-      → (step_of (record_at F h t) ≡ Step.Rule size) × (letter_of t ≡ end_letter → ⊥)
+  pub only-rule : F.sheets ≡ 0 → (i : Item) (size : ℕ) → record_at F h t ≡ Ok (item i size)
+      → (step_of (record_at F h t) ≡ Ok (Step.Rule size)) × (letter_of t ≡ end_letter → ⊥)
   unfolding holding step_of encoded_item
   only-rule none i size e = go i (item-read i size e) e
     where
@@ -62,8 +61,8 @@ module _ (F : Limits) (h : Held) (fitting : Fitting F h) (t : List ℕ) (bytes :
       other (strict h b c) w q = omega (arith, (strict-fields t h b c w).of-letter)
       other (defeasible g h b c) w q = omega (arith, (defeasible-fields t g h b c w).of-letter)
 
-      go : (j : Item) → ItemRead F h t j size → record_at F h t ≡ accepted (item j size)
-          → (step_of (record_at F h t) ≡ Step.Rule size) × (letter_of t ≡ end_letter → ⊥)
+      go : (j : Item) → ItemRead F h t j size → record_at F h t ≡ Ok (item j size)
+          → (step_of (record_at F h t) ≡ Ok (Step.Rule size)) × (letter_of t ≡ end_letter → ⊥)
       go (rule r) m w = (
         ap step_of w,
         other r (record { rest = drop size t; bytes = sym (take-append-drop size t) ∙ ap (λ (bs : List ℕ). bs ++ drop size t) m.bytes }),
@@ -72,7 +71,7 @@ module _ (F : Limits) (h : Held) (fitting : Fitting F h) (t : List ℕ) (bytes :
       go (opposition x) m w = absurd (omega (arith, m.room.oppositions, none))
 
   -- one that is read as the end does
-  pub end-letter : record_at F h t ≡ accepted end → letter_of t ≡ end_letter
+  pub end-letter : record_at F h t ≡ Ok end → letter_of t ≡ end_letter
   unfolding encoded_end
   end-letter e = go (record-sound F h fitting t bytes end e)
     where
@@ -102,13 +101,13 @@ going_start F s d counts short tallied = record {
 }
 
 -- too long a slice
-pub going-long : (F : Limits) (s : List ℕ) → F.length < length s → reading F s ≡ Reading.Refused (refusal TooLong 0)
+pub going-long : (F : Limits) (s : List ℕ) → F.length < length s → reading F s ≡ Err (refusal TooLong 0)
 unfolding rule_count
 going-long F s long = rules-counted F s ∙ ap rule_count (items-long F s long)
 
 -- the record at `at`, which starts the part t, was told to be r, and behind it is found x
 module _ {F : Limits} {s d e counts : List ℕ} {at : ℕ} {h : Held} (g : Going F s d e counts at h) (t : List ℕ) (part : t ≡ drop at s)
-    (r : Step) (told : r ≡ step_of (record_at F h t)) (x : Found) (behind : x ≡ found_of h r) where
+    (r : Answer Step) (told : r ≡ step_of (record_at F h t)) (x : Answer (Option (ℕ × Held))) (behind : x ≡ found_of h r) where
   step-here : step_of (record_at F h (drop at s)) ≡ r
   step-here = ap (λ (bs : List ℕ). step_of (record_at F h bs)) (sym part) ∙ sym told
 
@@ -122,12 +121,12 @@ module _ {F : Limits} {s d e counts : List ℕ} {at : ℕ} {h : Held} (g : Going
   letter-here = ap (λ (i : ℕ). get_or s i 0) (sym (add-zero at)) ∙ sym (get_or-drop at s 0 0)
 
   -- an item: its record has six bytes or more, and lies within the slice
-  pub going-size : (size : ℕ) (more : Held) → x ≡ Found.Next size more → (6 ≤ size) × (at + size ≤ length s)
+  pub going-size : (size : ℕ) (more : Held) → x ≡ Ok (Some (size, more)) → (6 ≤ size) × (at + size ≤ length s)
   going-size size more e =
       let sized = found-size F h (drop at s) size more (found_here ∙ e) in
       (sized.large, omega (arith, sized.fits, length-drop at s, g.within))
 
-  pub going_next : Bytes s → F.sheets ≡ 0 → (size : ℕ) (more : Held) → x ≡ Found.Next size more → (f counts' : List ℕ) → Marked t e f r → Tallied f counts'
+  pub going_next : Bytes s → F.sheets ≡ 0 → (size : ℕ) (more : Held) → x ≡ Ok (Some (size, more)) → (f counts' : List ℕ) → Marked t e f r → Tallied f counts'
       → Going F s d f counts' (at + size) more
   going_next bytes none size more e f counts' marked tallied =
       let sized = going-size size more e in
@@ -148,11 +147,11 @@ module _ {F : Limits} {s d e counts : List ℕ} {at : ℕ} {h : Held} (g : Going
       }
 
   -- the end: what was read, and what is marked
-  pub going-count : x ≡ Found.End → reading F s ≡ Reading.Count h.rules
+  pub going-count : x ≡ Ok None → reading F s ≡ Ok h.rules
   unfolding rule_count
   going-count e = rules-counted F s ∙ ap rule_count (g.read ∙ left_end F s at h early (found_here ∙ e))
 
-  pub going-marks : Bytes s → x ≡ Found.End → length d ≡ words → Empty d → (f : List ℕ) → Marked t e f r → (w : Holds Placed s) → Marks w.program f
+  pub going-marks : Bytes s → x ≡ Ok None → length d ≡ words → Empty d → (f : List ℕ) → Marked t e f r → (w : Holds Placed s) → Marks w.program f
   unfolding step_of
   going-marks bytes q long empty f marked w =
       let ended = found-end h (record_at F h (drop at s)) (found_here ∙ q) in
@@ -161,9 +160,9 @@ module _ {F : Limits} {s d e counts : List ℕ} {at : ℕ} {h : Held} (g : Going
       (gained-marks d e w.program long empty (along-end (g.pass w) letter))
 
   -- a refusal, and its place
-  pub going-refused : (y : Refusal) → x ≡ Found.Refused y → reading F s ≡ Reading.Refused (shifted at y)
+  pub going-refused : (y : Refusal) → x ≡ Err y → reading F s ≡ Err (shifted at y)
   unfolding rule_count
   going-refused y e = rules-counted F s ∙ ap rule_count (g.read ∙ left-refused F s at h early y (found_here ∙ e))
 
-  pub going-place : (y : Refusal) → x ≡ Found.Refused y → at + y.place ≤ length s
+  pub going-place : (y : Refusal) → x ≡ Err y → at + y.place ≤ length s
   going-place y e = omega (arith, found-place F h (drop at s) y (found_here ∙ e), length-drop at s, g.within)

@@ -1,7 +1,7 @@
 -- Laws of a rule's line: its parts, and their lengths.
 -- In order: numbers; the parts of a line; a record's; the line's length by its counts and its fields.
 -- Assumes nothing.
-use Prim.Native.Nat.{ℕ, zero, suc, ◌+◌, ◌*◌, ◌≤◌}
+use Prim.Native.Nat.{ℕ, zero, suc, ◌+◌, ◌*◌}
 use native.Mathlib.Omega.{arith}
 use native.Mathlib.Nat.{zero-add}
 use mathlib.Core.Path.{◌≡◌, refl, sym, ◌∙◌, ap, ap₂, subst}
@@ -13,9 +13,9 @@ use Rattle.record_walk.specs.Code.{record_size}
 use Rattle.aspif_meaning.specs.Ground.{GroundRule}
 use Rattle.aspif_text.specs.Text.{blank, line_end, field, fields, body_text, rule_line}
 use Rattle.aspif_place.specs.Code.{place_at, number_at_place}
-use Rattle.aspif_number.specs.Code.{places_at, Room}
+use Rattle.aspif_number.specs.Code.{places_at}
 use Rattle.aspif_number.proofs.Laws.Place.{length-places}
-use Rattle.aspif_rule.specs.Code.{numbers_at, ground_at, head_text, Readable, CountsLong, Long}
+use Rattle.aspif_rule.specs.Code.{numbers_at, ground_at, head_text, CountsLong, Long}
 
 -- places in two stretches
 places-split : (s : List ℕ) (at n m : ℕ) → places_at s at (n + m) ≡ places_at s at n ++ places_at s (at + 5 * n) m
@@ -143,10 +143,6 @@ line-long bits t rest run w v =
     }
 
 -- the same where the literals were counted
-pub counted-room : {bits t : List ℕ} {n : ℕ} → Readable bits t → n ≡ head_count t + positive_count t + naf_count t
-    → (7 + 5 * n ≤ length t) × Room (length bits) (places_at t 7 n)
-counted-room w e = (omega (arith, e, w.whole), rw e w.room)
-
 pub counted-long : (bits t : List ℕ) (n rest run : ℕ) → n ≡ head_count t + positive_count t + naf_count t
     → CountsLong (head_count t) (positive_count t) (naf_count t) rest → Long run (fields false (numbers_at bits t 7 n)) (11 * n)
     → Long (rest + run) (rule_line (ground_at bits t)) (12 * record_size t)

@@ -2,6 +2,7 @@
 -- In order: what bytes say is within the limits; an accepted call's number; a refused call's place.
 -- Assumes nothing.
 use Prim.Native.Nat.{ℕ, ◌+◌, ◌*◌, ◌≤◌}
+use Rattle.std.specs.Prelude.{Ok, Err}
 use native.Mathlib.Omega.{arith}
 use mathlib.Core.Path.{◌≡◌, refl, sym, ◌∙◌, ap, subst}
 use mathlib.Core.Bool.{Bool, true, false}
@@ -12,8 +13,7 @@ use Rattle.buffer.specs.Bytes.{Bytes}
 use Rattle.literal.specs.declared.Limits.{Limits}
 use Rattle.semantics.proofs.Laws.Tests.{along}
 use Rattle.record.specs.declared.Refusal.{Refusal}
-use Rattle.record.specs.declared.Reading.TheVariants.{Count, Refused}
-use Rattle.record.specs.Result.{Result, accepted, refused}
+use Rattle.record.specs.Result.{Answer}
 use Rattle.record.specs.Reading.{rule_only}
 use Rattle.record.proofs.Laws.Result.{refuse-if-accepted}
 use Rattle.record.proofs.Laws.Places.{Placed, refuse-if-placed, and-then-placed}
@@ -39,16 +39,16 @@ module _ (F : Limits) (ok : Assemblable F) where
 
   -- an accepted call answers how many rules the state then says are held, and they are no more than the form takes
   module _ (c : Call) (h : BytesIn c) (st out : List ℕ) (bytes : Bytes st) (n : ℕ) where
-    moved-count : (r : Result Move) → outcome F c st (length out) ≡ r → (moved F st out r).answer ≡ Count n
+    moved-count : (r : Answer Move) → outcome F c st (length out) ≡ r → (moved F st out r).answer ≡ Ok n
         → (length (shapes (stage_of F (moved F st out r).state)) ≡ n) × (n ≤ F.rules)
     unfolding moved
-    moved-count (refused x) q e = let z : ◌≡◌ {A = ℕ} 0 1 = cc in absurd (omega (arith, z))
-    moved-count (accepted m) q e =
+    moved-count (Err x) q e = let z : ◌≡◌ {A = ℕ} 0 1 = cc in absurd (omega (arith, z))
+    moved-count (Ok m) q e =
         let k = move-kept F c h (stage_of F st) (said-kept st bytes) (length out) m (refuse-if-accepted _ _ _ m q).1 in
         let same : length (shapes m.stage) ≡ n = cc in
         (ap (λ (s : Stage). length (shapes s)) (stage-said F ok m.stage k) ∙ same, omega (arith, same, stage-few F m.stage k))
 
-    pub answer-count : (called F c st out).answer ≡ Count n → (length (shapes (stage_of F (called F c st out).state)) ≡ n) × (n ≤ F.rules)
+    pub answer-count : (called F c st out).answer ≡ Ok n → (length (shapes (stage_of F (called F c st out).state)) ≡ n) × (n ≤ F.rules)
     unfolding called
     answer-count e = moved-count (outcome F c st (length out)) refl e
 
@@ -75,11 +75,11 @@ module _ (F : Limits) where
   move-placed close (opened ss) room = room-placed room _ _
   move-placed close (closed ss) room = omega arith
 
-  pub answer-place : (c : Call) (st out : List ℕ) (x : Refusal) → (called F c st out).answer ≡ Refused x → x.place ≤ 7 + 5 * (F.heads + (F.positives + F.nafs))
+  pub answer-place : (c : Call) (st out : List ℕ) (x : Refusal) → (called F c st out).answer ≡ Err x → x.place ≤ 7 + 5 * (F.heads + (F.positives + F.nafs))
   unfolding called moved
   answer-place c st out x e =
       go (outcome F c st (length out)) (refuse-if-placed largest _ _ _ (omega arith) (λ q. move-placed c (stage_of F st) (length out))) e
     where
-      go : (r : Result Move) → Placed largest r → (moved F st out r).answer ≡ Refused x → x.place ≤ largest
-      go (accepted m) p e = let z : ◌≡◌ {A = ℕ} 0 1 = cc in absurd (omega (arith, z))
-      go (refused y) p e = let same : y ≡ x = cc in subst (λ (v : Refusal). v.place ≤ largest) same p
+      go : (r : Answer Move) → Placed largest r → (moved F st out r).answer ≡ Err x → x.place ≤ largest
+      go (Ok m) p e = let z : ◌≡◌ {A = ℕ} 0 1 = cc in absurd (omega (arith, z))
+      go (Err y) p e = let same : y ≡ x = cc in subst (λ (v : Refusal). v.place ≤ largest) same p

@@ -3,6 +3,7 @@
 -- list of calls; how long the rules held are; what is said of them; the promise.
 -- Assumes nothing.
 use Prim.Native.Nat.{ℕ, zero, suc, ◌+◌, ◌-◌, ◌*◌, ◌≤◌, ◌<◌}
+use Rattle.std.specs.Prelude.{Ok, Err}
 use native.Mathlib.Omega.{arith}
 use native.Mathlib.Nat.{mul-le-mul_right}
 use mathlib.Core.Path.{◌≡◌, refl, sym, ◌∙◌, ap, ap₂, subst}
@@ -25,8 +26,7 @@ use Rattle.semantics.specs.Form.{keeps_rule}
 use Rattle.semantics.proofs.Laws.Tests.{both, first, second, all_append}
 use Rattle.semantics.proofs.Laws.Form.{kept}
 use Rattle.record.specs.declared.Refusal.{Refusal}
-use Rattle.record.specs.declared.Reading.TheVariants.{Count, Refused}
-use Rattle.record.specs.Result.{Result, accepted, refused}
+use Rattle.record.specs.Result.{Answer}
 use Rattle.record.specs.Layout.{encoded_rule, encoded_rules, encoded_end, encoded_program, keeps}
 use Rattle.record.specs.Reading.{rules_held, record_at, items}
 use Rattle.record.proofs.Laws.Result.{refused-accepted, refuse-if-accepted}
@@ -119,11 +119,11 @@ left o = record { state = o.state; buffer = o.buffer }
 
 module _ (F : Limits) where
   -- an accepted begin
-  begun-held : (st out : List ℕ) (m : Move) → begun (length out) ≡ accepted m → Holding F [] (left (moved F st out (accepted m)))
+  begun-held : (st out : List ℕ) (m : Move) → begun (length out) ≡ Ok m → Holding F [] (left (moved F st out (Ok m)))
   unfolding moved encoded_rules
   begun-held st out m e =
       let w = begun-move (length out) m e in
-      subst (λ (x : Move). Holding F [] (left (moved F st out (accepted x)))) w.1
+      subst (λ (x : Move). Holding F [] (left (moved F st out (Ok x)))) w.1
       (record { each = tt; count = omega arith; bytes = refl; room = omega (arith, w.0, ap length (write-nil out 0)); stage = inl refl })
 
   module _ (p : Program) (s : Session) (w : Holding F p s) where
@@ -159,14 +159,14 @@ module _ (F : Limits) where
         ∙ ap (λ (x : Shape). shapes_of p ++ (x ∷ [])) (sym (shape-read F (length (shapes_of p)) t size v bytes))
 
     added-held : (t : List ℕ) → Bytes t → (m : Move) → AddAccepted F t (shapes_of p) (length s.buffer) m
-        → Holding F (p ++ rule_read (record_at F (rules_held (length p)) t)) (left (moved F s.state s.buffer (accepted m)))
+        → Holding F (p ++ rule_read (record_at F (rules_held (length p)) t)) (left (moved F s.state s.buffer (Ok m)))
     unfolding moved
     added-held t bytes m v =
         let a = v.read in
         let r = a.rule-of in
         let whole = added-rule F (length (shapes_of p)) t v.size bytes a in
         let sized = sym (length-take-le v.size t a.fits) ∙ ap length whole.0 in
-        subst (λ (x : Move). Holding F (p ++ rule_read (record_at F (rules_held (length p)) t)) (left (moved F s.state s.buffer (accepted x)))) v.same
+        subst (λ (x : Move). Holding F (p ++ rule_read (record_at F (rules_held (length p)) t)) (left (moved F s.state s.buffer (Ok x)))) v.same
         (subst (λ (q : Program). Holding F (p ++ q) then) (sym (added-rules t v.size a))
         (subst (Holding F (p ++ (r ∷ [])))
         (ap₂ (λ (ss : List Shape) (out : List ℕ). record { state = encoded_stage F (opened ss); buffer = out }) (added-shapes t bytes v.size a)
@@ -182,10 +182,10 @@ module _ (F : Limits) where
 
     -- an accepted drop
     dropped-held : (m : Move) → dropped_move (shapes_of p) ≡ m
-        → Holding F (take (length p - 1) p) (left (moved F s.state s.buffer (accepted m)))
+        → Holding F (take (length p - 1) p) (left (moved F s.state s.buffer (Ok m)))
     unfolding moved
     dropped-held m same =
-        subst (λ (x : Move). Holding F q (left (moved F s.state s.buffer (accepted x)))) same
+        subst (λ (x : Move). Holding F q (left (moved F s.state s.buffer (Ok x)))) same
         (record {
           each = take-each (keeps_rule F) (length p - 1) p w.each;
           count = omega (arith, length-take (length p - 1) p, w.count);
@@ -207,10 +207,10 @@ module _ (F : Limits) where
 
     -- an accepted close
     closed-held : (m : Move) → ended_move (shapes_of p) ≡ m
-        → Holding F p (left (moved F s.state s.buffer (accepted m)))
+        → Holding F p (left (moved F s.state s.buffer (Ok m)))
     unfolding moved encoded_program
     closed-held m same =
-        subst (λ (x : Move). Holding F p (left (moved F s.state s.buffer (accepted x)))) same
+        subst (λ (x : Move). Holding F p (left (moved F s.state s.buffer (Ok x)))) same
         (record {
           each = w.each;
           count = w.count;
@@ -234,7 +234,7 @@ module _ (F : Limits) where
         same_length = length-write s.buffer _ _ (omega (arith, held-length p, w.room, length-end (length (shapes_of p))))
 
 -- the rules behind a refused call
-listed-refused : (F : Limits) (c : Call) (x : Refusal) (p : Program) → listed F c (Refused x) p ≡ p
+listed-refused : (F : Limits) (c : Call) (x : Refusal) (p : Program) → listed F c (Err x) p ≡ p
 unfolding listed
 listed-refused F begin x p = refl
 listed-refused F (add t) x p = refl
@@ -252,41 +252,41 @@ module _ (F : Limits) (ok : Assemblable F) where
   closed-kept p s w = keeps-stage F (closed (shapes_of p)) (omega (arith, w.count, shapes-count p)) (shapes-kept F p w.each)
 
   -- an accepted begin holds no rule
-  pub begun-holding : (s : Session) → (called_in F begin s).answer ≡ Count 0 → Holding F [] (after F begin s)
+  pub begun-holding : (s : Session) → (called_in F begin s).answer ≡ Ok 0 → Holding F [] (after F begin s)
   unfolding called moved move
   begun-holding s e = go (outcome F begin s.state (length s.buffer)) refl e
     where
-      go : (r : Result Move) → outcome F begin s.state (length s.buffer) ≡ r → (moved F s.state s.buffer r).answer ≡ Count 0
+      go : (r : Answer Move) → outcome F begin s.state (length s.buffer) ≡ r → (moved F s.state s.buffer r).answer ≡ Ok 0
           → Holding F [] (left (moved F s.state s.buffer r))
-      go (refused x) q e = let z : ◌≡◌ {A = ℕ} 0 1 = cc in absurd (omega (arith, z))
-      go (accepted m) q e = begun-held F s.state s.buffer m (refuse-if-accepted _ _ _ m q).1
+      go (Err x) q e = let z : ◌≡◌ {A = ℕ} 0 1 = cc in absurd (omega (arith, z))
+      go (Ok m) q e = begun-held F s.state s.buffer m (refuse-if-accepted _ _ _ m q).1
 
   module _ (p : Program) (s : Session) (w : Holding F p s) where
     -- the rules and the session behind a call that came to this
     Then : Call → Called → Type 0
     Then c o = Holding F (listed F c o.answer p) (left o)
 
-    refused-then : (c : Call) (x : Refusal) → Then c (moved F s.state s.buffer (refused x))
+    refused-then : (c : Call) (x : Refusal) → Then c (moved F s.state s.buffer (Err x))
     unfolding Then moved
     refused-then c x = subst (λ (q : Program). Holding F q s) (sym (listed-refused F c x p)) w
 
-    open-then : (c : Call) → BytesIn c → (r : Result Move) → move F c (opened (shapes_of p)) (length s.buffer) ≡ r
+    open-then : (c : Call) → BytesIn c → (r : Answer Move) → move F c (opened (shapes_of p)) (length s.buffer) ≡ r
         → Then c (moved F s.state s.buffer r)
     unfolding Then moved move listed
-    open-then c h (refused x) e = refused-then c x
-    open-then begin h (accepted m) e = begun-held F s.state s.buffer m e
-    open-then (add t) h (accepted m) e = added-held F p s w t h m (added-move F t (shapes_of p) (length s.buffer) m e)
-    open-then drop_last h (accepted m) e = dropped-held F p s w m (dropped-move (shapes_of p) m e).1
-    open-then close h (accepted m) e = closed-held F p s w m (ended_move_lem (shapes_of p) (length s.buffer) m e).1
+    open-then c h (Err x) e = refused-then c x
+    open-then begin h (Ok m) e = begun-held F s.state s.buffer m e
+    open-then (add t) h (Ok m) e = added-held F p s w t h m (added-move F t (shapes_of p) (length s.buffer) m e)
+    open-then drop_last h (Ok m) e = dropped-held F p s w m (dropped-move (shapes_of p) m e).1
+    open-then close h (Ok m) e = closed-held F p s w m (ended_move_lem (shapes_of p) (length s.buffer) m e).1
 
-    closed-then : (c : Call) → BytesIn c → (r : Result Move) → move F c (closed (shapes_of p)) (length s.buffer) ≡ r
+    closed-then : (c : Call) → BytesIn c → (r : Answer Move) → move F c (closed (shapes_of p)) (length s.buffer) ≡ r
         → Then c (moved F s.state s.buffer r)
     unfolding Then moved move listed
-    closed-then c h (refused x) e = refused-then c x
-    closed-then begin h (accepted m) e = begun-held F s.state s.buffer m e
-    closed-then (add t) h (accepted m) e = absurd (refused-accepted e)
-    closed-then drop_last h (accepted m) e = absurd (refused-accepted e)
-    closed-then close h (accepted m) e = absurd (refused-accepted e)
+    closed-then c h (Err x) e = refused-then c x
+    closed-then begin h (Ok m) e = begun-held F s.state s.buffer m e
+    closed-then (add t) h (Ok m) e = absurd (refused-accepted e)
+    closed-then drop_last h (Ok m) e = absurd (refused-accepted e)
+    closed-then close h (Ok m) e = absurd (refused-accepted e)
 
   -- one call
   pub next-holding : (c : Call) → BytesIn c → (s : Session) (p : Program) → Holding F p s → Holding F (listed F c (called_in F c s).answer p) (after F c s)
@@ -354,16 +354,16 @@ module _ (F : Limits) where
         go (inr e) = e.1
 
     -- where it is an open one, a close is accepted
-    pub holding-open : (ss : List Shape) → stage_of F s.state ≡ opened ss → (called_in F close s).answer ≡ Count (length p)
+    pub holding-open : (ss : List Shape) → stage_of F s.state ≡ opened ss → (called_in F close s).answer ≡ Ok (length p)
     unfolding moved move shapes
     holding-open ss q = go w.stage
       where
-        go : OpenOrClosed F p s → (called_in F close s).answer ≡ Count (length p)
+        go : OpenOrClosed F p s → (called_in F close s).answer ≡ Ok (length p)
         go (inl e) =
             ap (λ (o : Called). o.answer)
             (called-accepted F ok (opened (shapes_of p)) (open_kept F ok p s w) close s.state s.buffer e _
             (ended-accepted (shapes_of p) (length s.buffer) (omega (arith, held-length p, w.room))))
-            ∙ ap Count (shapes-count p)
+            ∙ ap Ok (shapes-count p)
         go (inr e) = let d : closed (shapes_of p) ≡ opened ss = sym (closed_said e.0) ∙ q in let z : ◌≡◌ {A = ℕ} 0 1 = cc in absurd (omega (arith, z))
 
 -- a list of calls behind a begin: the rules added since the last accepted begin and not dropped, and what stands in the end
@@ -374,7 +374,7 @@ abbrev pub finish : Limits → Session → List Call → Session
 finish F s cs = run F cs (after F begin s)
 
 -- the promise, where that begin was accepted
-module _ (F : Limits) (ok : Assemblable F) (s : Session) (begins : (called_in F begin s).answer ≡ Count 0) (cs : List Call) (bytes : AllBytes cs) where
+module _ (F : Limits) (ok : Assemblable F) (s : Session) (begins : (called_in F begin s).answer ≡ Ok 0) (cs : List Call) (bytes : AllBytes cs) where
   pub built-holding : Holding F (built F s cs) (finish F s cs)
   built-holding = run-holding F ok cs bytes (after F begin s) [] (begun-holding F ok s begins)
 
@@ -391,7 +391,7 @@ module _ (F : Limits) (ok : Assemblable F) (s : Session) (begins : (called_in F 
 
   -- while the assembly is open, a close in the same buffer is accepted
   pub never-short : (ss : List Shape) → stage_of F (finish F s cs).state ≡ opened ss
-      → (called_in F close (finish F s cs)).answer ≡ Count (length (built F s cs))
+      → (called_in F close (finish F s cs)).answer ≡ Ok (length (built F s cs))
   never-short = holding-open F ok (built F s cs) (finish F s cs) built-holding
 
   -- once it is closed, so many of the buffer's first bytes are the program of those rules
@@ -405,7 +405,7 @@ module _ (F : Limits) (ok : Assemblable F) (s : Session) (begins : (called_in F 
 
   -- and are read as those rules
   pub assembled-reads : (ss : List Shape) → stage_of F (finish F s cs).state ≡ closed ss
-      → items F (take (assembled F (finish F s cs).state) (finish F s cs).buffer) ≡ accepted (map rule (built F s cs))
+      → items F (take (assembled F (finish F s cs).state) (finish F s cs).buffer) ≡ Ok (map rule (built F s cs))
   assembled-reads ss e =
       ap (items F) ((assembled-program ss e).1.0 ∙ sym (file-bytes (built F s cs)))
       ∙ items-written F (map rule (built F s cs)) (program-file F (built F s cs) built-keeps)

@@ -3,6 +3,7 @@
 -- nothing; the shape of a rule's record, and of an added one; a call on a state gives back a state; a call on a stage's bytes.
 -- Assumes nothing.
 use Prim.Native.Nat.{ℕ, zero, suc, ◌+◌, ◌-◌, ◌≤◌, ◌<◌}
+use Rattle.std.specs.Prelude.{Ok, Err}
 use native.Mathlib.Omega.{arith}
 use mathlib.Core.Path.{◌≡◌, refl, sym, ◌∙◌, ap, ap₂, subst}
 use mathlib.Core.Bool.{Bool, true, not, true≢false}
@@ -23,10 +24,9 @@ use Rattle.semantics.proofs.Laws.Tests.{both, first, second, all_append}
 use Rattle.semantics.proofs.Laws.Form.{kept}
 use Rattle.record.specs.declared.Reason.TheVariants.{OutOfTurn}
 use Rattle.record.specs.declared.Refusal.{Refusal}
-use Rattle.record.specs.declared.Reading.TheVariants.{Count, Refused}
 use Rattle.record.specs.Header.{defeasible_letter, letter_of, head_count, positive_count, naf_count}
 use Rattle.record.specs.Refusal.{refusal}
-use Rattle.record.specs.Result.{Result, accepted, refused, and_then, refuse_if}
+use Rattle.record.specs.Result.{Answer, and_then, refuse_if}
 use Rattle.record.specs.Layout.{rule_record, encoded_rule, encoded_end}
 use Rattle.record.specs.Reading.{rule_only}
 use Rattle.record.proofs.Laws.Result.{refused-accepted, accepted-eq, and-then-accepted, accepted-and-then, refuse-if-accepted, refuse-if-false}
@@ -39,18 +39,18 @@ use Rattle.assembly.proofs.Laws.Row.{keeps-shape}
 use Rattle.assembly.proofs.Laws.State.{parts-state, stage-state, stage-said, length-stage, state-iff}
 
 -- what a call comes to, lent so much room
-abbrev pub outcome : Limits → Call → List ℕ → ℕ → Result Move
+abbrev pub outcome : Limits → Call → List ℕ → ℕ → Answer Move
 outcome F c st room = refuse_if (not (eqb (length st) (state_bytes F))) (refusal OutOfTurn 0) (move F c (stage_of F st) room)
 
 -- a refused call changes nothing
-pub refused_same : (F : Limits) (c : Call) (st out : List ℕ) (x : Refusal) → (called F c st out).answer ≡ Refused x
+pub refused_same : (F : Limits) (c : Call) (st out : List ℕ) (x : Refusal) → (called F c st out).answer ≡ Err x
     → ((called F c st out).state ≡ st) × ((called F c st out).buffer ≡ out)
 unfolding called moved
 refused_same F c st out x e = go (outcome F c st (length out)) e
   where
-    go : (r : Result Move) → (moved F st out r).answer ≡ Refused x → ((moved F st out r).state ≡ st) × ((moved F st out r).buffer ≡ out)
-    go (refused y) e = (refl, refl)
-    go (accepted m) e = let z : ◌≡◌ {A = ℕ} 0 1 = cc in absurd (omega (arith, z))
+    go : (r : Answer Move) → (moved F st out r).answer ≡ Err x → ((moved F st out r).state ≡ st) × ((moved F st out r).buffer ≡ out)
+    go (Err y) e = (refl, refl)
+    go (Ok m) e = let z : ◌≡◌ {A = ℕ} 0 1 = cc in absurd (omega (arith, z))
 
 -- the answer and the state are the same in any buffer of that length
 pub answer-blind : (F : Limits) (c : Call) (st out out' : List ℕ) → length out ≡ length out'
@@ -62,9 +62,9 @@ answer-blind F c st out out' e =
       ap (λ (room : ℕ). (moved F st out (outcome F c st room)).state) e ∙ w.1,
     )
   where
-    go : (r : Result Move) → ((moved F st out r).answer ≡ (moved F st out' r).answer) × ((moved F st out r).state ≡ (moved F st out' r).state)
-    go (refused y) = (refl, refl)
-    go (accepted m) = (refl, refl)
+    go : (r : Answer Move) → ((moved F st out r).answer ≡ (moved F st out' r).answer) × ((moved F st out r).state ≡ (moved F st out' r).state)
+    go (Err y) = (refl, refl)
+    go (Ok m) = (refl, refl)
 
 -- what accepted calls come to, where rules of these shapes are held
 abbrev pub begun_move : Move
@@ -80,25 +80,25 @@ abbrev pub ended_move : List Shape → Move
 ended_move ss = record { stage = closed ss; at = held_length ss; bytes = encoded_end (length ss) }
 
 -- what is then held has room
-room-for : (room held : ℕ) (m : Move) → held + 4 ≤ room → room_for room held m ≡ accepted m
+room-for : (room held : ℕ) (m : Move) → held + 4 ≤ room → room_for room held m ≡ Ok m
 unfolding room_for
 room-for room held m h = refuse-if-false _ _ _ (le-ltb room (held + 4) h)
 
 -- a begin is accepted where an end record has room
-pub begun-accepted : (room : ℕ) → 4 ≤ room → begun room ≡ accepted begun_move
+pub begun-accepted : (room : ℕ) → 4 ≤ room → begun room ≡ Ok begun_move
 unfolding begun
 begun-accepted room h = room-for room 0 _ h
 
-pub begun-move : (room : ℕ) (m : Move) → begun room ≡ accepted m → (4 ≤ room) × (begun_move ≡ m)
+pub begun-move : (room : ℕ) (m : Move) → begun room ≡ Ok m → (4 ≤ room) × (begun_move ≡ m)
 unfolding begun room_for
 begun-move room m e = let q = refuse-if-accepted _ _ _ m e in (ltb-false room 4 q.0, accepted-eq q.1)
 
 -- an add where its record is read, and has room
-pub added-accepted : (F : Limits) (t : List ℕ) (ss : List Shape) (room size : ℕ) → rule_only F (length ss) t ≡ accepted size → held_length ss + size + 4 ≤ room
-    → added F t ss room ≡ accepted (added_move t ss size)
+pub added-accepted : (F : Limits) (t : List ℕ) (ss : List Shape) (room size : ℕ) → rule_only F (length ss) t ≡ Ok size → held_length ss + size + 4 ≤ room
+    → added F t ss room ≡ Ok (added_move t ss size)
 unfolding added
 added-accepted F t ss room size e h =
-    ap (λ (r : Result ℕ). and_then r (λ k. room_for room (held_length ss + k) (added_move t ss k))) e
+    ap (λ (r : Answer ℕ). and_then r (λ k. room_for room (held_length ss + k) (added_move t ss k))) e
     ∙ accepted-and-then size _ ∙ room-for room (held_length ss + size) _ h
 
 pub record AddAccepted (F : Limits) (t : List ℕ) (ss : List Shape) (room : ℕ) (m : Move) : Type 0 where
@@ -107,7 +107,7 @@ pub record AddAccepted (F : Limits) (t : List ℕ) (ss : List Shape) (room : ℕ
   pub fits : held_length ss + size + 4 ≤ room
   pub same : added_move t ss size ≡ m
 
-pub added-move : (F : Limits) (t : List ℕ) (ss : List Shape) (room : ℕ) (m : Move) → added F t ss room ≡ accepted m → AddAccepted F t ss room m
+pub added-move : (F : Limits) (t : List ℕ) (ss : List Shape) (room : ℕ) (m : Move) → added F t ss room ≡ Ok m → AddAccepted F t ss room m
 unfolding added room_for
 added-move F t ss room m e =
     let q = and-then-accepted (rule_only F (length ss) t) _ m e in
@@ -120,7 +120,7 @@ added-move F t ss room m e =
     }
 
 -- a drop where a rule is held
-pub dropped-move : (ss : List Shape) (m : Move) → dropped ss ≡ accepted m → (0 < length ss) × (dropped_move ss ≡ m)
+pub dropped-move : (ss : List Shape) (m : Move) → dropped ss ≡ Ok m → (0 < length ss) × (dropped_move ss ≡ m)
 unfolding dropped
 dropped-move ss m e =
     let q = refuse-if-accepted _ _ _ m e in
@@ -132,19 +132,19 @@ dropped-move ss m e =
     go (suc n) f = omega arith
 
 -- a close where an end record has room behind the rules
-pub ended-accepted : (ss : List Shape) (room : ℕ) → held_length ss + 4 ≤ room → ended ss room ≡ accepted (ended_move ss)
+pub ended-accepted : (ss : List Shape) (room : ℕ) → held_length ss + 4 ≤ room → ended ss room ≡ Ok (ended_move ss)
 unfolding ended
 ended-accepted ss room h = room-for room (held_length ss) _ h
 
-pub ended_move_lem : (ss : List Shape) (room : ℕ) (m : Move) → ended ss room ≡ accepted m → (held_length ss + 4 ≤ room) × (ended_move ss ≡ m)
+pub ended_move_lem : (ss : List Shape) (room : ℕ) (m : Move) → ended ss room ≡ Ok m → (held_length ss + 4 ≤ room) × (ended_move ss ≡ m)
 unfolding ended room_for
 ended_move_lem ss room m e = let q = refuse-if-accepted _ _ _ m e in (ltb-false room (held_length ss + 4) q.0, accepted-eq q.1)
 
 -- begin and drop write nothing
-silent : (F : Limits) (st out : List ℕ) (r : Result Move) → ((m : Move) → r ≡ accepted m → m.bytes ≡ []) → (moved F st out r).buffer ≡ out
+silent : (F : Limits) (st out : List ℕ) (r : Answer Move) → ((m : Move) → r ≡ Ok m → m.bytes ≡ []) → (moved F st out r).buffer ≡ out
 unfolding moved
-silent F st out (refused x) h = refl
-silent F st out (accepted m) h = ap (write out m.at) (h m refl) ∙ write-nil out m.at
+silent F st out (Err x) h = refl
+silent F st out (Ok m) h = ap (write out m.at) (h m refl) ∙ write-nil out m.at
 
 pub begin-writes-none : (F : Limits) (st out : List ℕ) → (called F begin st out).buffer ≡ out
 unfolding called move
@@ -155,7 +155,7 @@ pub drop-writes-none : (F : Limits) (st out : List ℕ) → (called F drop_last 
 unfolding called move
 drop-writes-none F st out = silent F st out (outcome F drop_last st (length out)) (λ m e. go (stage_of F st) m (refuse-if-accepted _ _ _ m e).1)
   where
-    go : (s : Stage) (m : Move) → move F drop_last s (length out) ≡ accepted m → m.bytes ≡ []
+    go : (s : Stage) (m : Move) → move F drop_last s (length out) ≡ Ok m → m.bytes ≡ []
     go before m e = absurd (refused-accepted e)
     go (opened ss) m e = ap (λ (k : Move). k.bytes) (sym (dropped-move ss m e).1)
     go (closed ss) m e = absurd (refused-accepted e)
@@ -246,7 +246,7 @@ module _ (F : Limits) where
   unfolding shapes
   closed-kept ss k = keeps-stage F (closed ss) (stage-few F (opened ss) k) (stage-each F (opened ss) k)
 
-  pub move-kept : (c : Call) → BytesIn c → (s : Stage) → T (keeps_stage F s) → (room : ℕ) (m : Move) → move F c s room ≡ accepted m → T (keeps_stage F m.stage)
+  pub move-kept : (c : Call) → BytesIn c → (s : Stage) → T (keeps_stage F s) → (room : ℕ) (m : Move) → move F c s room ≡ Ok m → T (keeps_stage F m.stage)
   unfolding move
   move-kept begin h s k room m e = subst (λ (x : Move). T (keeps_stage F x.stage)) (begun-move room m e).1 begun_kept
   move-kept (add t) h before k room m e = absurd (refused-accepted e)
@@ -266,11 +266,11 @@ OfStage F st = (s : Stage) × T (keeps_stage F s) × (st ≡ encoded_stage F s)
 
 module _ (F : Limits) (ok : Assemblable F) where
   -- a call on a stage's bytes gives back a stage's bytes
-  moved-stage : (st out : List ℕ) (r : Result Move) → OfStage F st → ((m : Move) → r ≡ accepted m → T (keeps_stage F m.stage))
+  moved-stage : (st out : List ℕ) (r : Answer Move) → OfStage F st → ((m : Move) → r ≡ Ok m → T (keeps_stage F m.stage))
       → OfStage F (moved F st out r).state
   unfolding moved
-  moved-stage st out (refused x) w h = w
-  moved-stage st out (accepted m) w h = (m.stage, h m refl, refl)
+  moved-stage st out (Err x) w h = w
+  moved-stage st out (Ok m) w h = (m.stage, h m refl, refl)
 
   pub stays-stage : (c : Call) → BytesIn c → (st out : List ℕ) → OfStage F st → OfStage F (called F c st out).state
   unfolding called
@@ -290,13 +290,13 @@ module _ (F : Limits) (ok : Assemblable F) where
   stays-state c h st out bytes k = of-stage (called F c st out).state (stays-stage c h st out ((state-iff F ok st bytes).0 k))
 
   -- and an accepted begin does on any bytes
-  pub begun-state : (st out : List ℕ) → (called F begin st out).answer ≡ Count 0 → T (is_state F (called F begin st out).state)
+  pub begun-state : (st out : List ℕ) → (called F begin st out).answer ≡ Ok 0 → T (is_state F (called F begin st out).state)
   unfolding called moved move
   begun-state st out e = go (outcome F begin st (length out)) refl e
     where
-      go : (r : Result Move) → outcome F begin st (length out) ≡ r → (moved F st out r).answer ≡ Count 0 → T (is_state F (moved F st out r).state)
-      go (refused x) q e = let z : ◌≡◌ {A = ℕ} 0 1 = cc in absurd (omega (arith, z))
-      go (accepted m) q e =
+      go : (r : Answer Move) → outcome F begin st (length out) ≡ r → (moved F st out r).answer ≡ Ok 0 → T (is_state F (moved F st out r).state)
+      go (Err x) q e = let z : ◌≡◌ {A = ℕ} 0 1 = cc in absurd (omega (arith, z))
+      go (Ok m) q e =
           let w = begun-move (length out) m (refuse-if-accepted _ _ _ m q).1 in
           of-stage (encoded_stage F m.stage) (m.stage, subst (λ (x : Move). T (keeps_stage F x.stage)) w.1 (begun_kept F), refl)
 
@@ -309,5 +309,5 @@ module _ (F : Limits) (ok : Assemblable F) where
         (refuse-if-false _ _ _ (ap not (eq-eqb (length st) (state_bytes F) (ap length e ∙ length-stage F ok s k)))
         ∙ ap (λ (x : Stage). move F c x (length out)) (ap (stage_of F) e ∙ stage-said F ok s k))
 
-    pub called-accepted : (m : Move) → move F c s (length out) ≡ accepted m → called F c st out ≡ moved F st out (accepted m)
+    pub called-accepted : (m : Move) → move F c s (length out) ≡ Ok m → called F c st out ≡ moved F st out (Ok m)
     called-accepted m q = called-stage ∙ ap (moved F st out) q

@@ -3,6 +3,7 @@
 -- the length that is assembled.
 -- Assumes nothing.
 use Prim.Native.Nat.{ℕ, ◌+◌, ◌-◌, ◌*◌, ◌≤◌, ◌<◌}
+use Rattle.std.specs.Prelude.{Ok, Err}
 use native.Mathlib.Omega.{arith}
 use mathlib.Core.Path.{◌≡◌, refl, sym, ◌∙◌, ap, ap₂}
 use mathlib.Core.Bool.{Bool, true, false, not, true≢false}
@@ -19,9 +20,8 @@ use Rattle.semantics.specs.Set.{each_of}
 use Rattle.semantics.proofs.Laws.Tests.{first, second}
 use Rattle.record.specs.declared.Reason.TheVariants.{OutputShort, OutOfTurn}
 use Rattle.record.specs.declared.Refusal.{Refusal}
-use Rattle.record.specs.declared.Reading.TheVariants.{Count, Refused}
 use Rattle.record.specs.Refusal.{refusal}
-use Rattle.record.specs.Result.{Result, accepted, refused, and_then, refuse_if}
+use Rattle.record.specs.Result.{Answer, and_then, refuse_if}
 use Rattle.record.specs.Layout.{encoded_end}
 use Rattle.record.specs.Reading.{rule_only}
 use Rattle.record.proofs.Laws.Result.{refused-and-then, accepted-and-then, refuse-if-true, refuse-if-false}
@@ -36,7 +36,7 @@ use Rattle.assembly.proofs.Laws.Session.{called-stage, stage-few, stage-each}
 
 -- a refused call changes nothing
 abbrev pub refused_call : Refusal → List ℕ → List ℕ → Called
-refused_call x st out = record { answer = Refused x; state = st; buffer = out }
+refused_call x st out = record { answer = Err x; state = st; buffer = out }
 
 module _ (F : Limits) (c : Call) (st out : List ℕ) where
   -- 15: a slice of another length than a state's
@@ -54,15 +54,15 @@ module _ (F : Limits) (st out : List ℕ) (long : length st ≡ state_bytes F) w
   unfolding move begun room_for moved
   begin-short e = long-called F begin st out long ∙ ap (moved F st out) (refuse-if-true _ _ _ (lt-ltb (length out) 4 e))
 
-  pub begin-held : 4 ≤ length out → called F begin st out ≡ record { answer = Count 0; state = encoded_stage F (opened []); buffer = out }
+  pub begin-held : 4 ≤ length out → called F begin st out ≡ record { answer = Ok 0; state = encoded_stage F (opened []); buffer = out }
   unfolding move begun room_for moved shapes
   begin-held e =
       long-called F begin st out long ∙ ap (moved F st out) (refuse-if-false _ _ _ (le-ltb (length out) 4 e))
-      ∙ ap (λ (b : List ℕ). record { answer = Count 0; state = encoded_stage F (opened []); buffer = b }) (write-nil out 0)
+      ∙ ap (λ (b : List ℕ). record { answer = Ok 0; state = encoded_stage F (opened []); buffer = b }) (write-nil out 0)
 
 -- what takes no call but begin
 module _ (F : Limits) (st out : List ℕ) (idle : (standing_of (stage_of F st)).active ≡ false) where
-  idle-called : (c : Call) → ((s : Stage) → is_open s ≡ false → move F c s (length out) ≡ refused (refusal OutOfTurn 0))
+  idle-called : (c : Call) → ((s : Stage) → is_open s ≡ false → move F c s (length out) ≡ Err (refusal OutOfTurn 0))
       → called F c st out ≡ refused_call (refusal OutOfTurn 0) st out
   unfolding standing_of moved called
   idle-called c f = go (eqb (length st) (state_bytes F))
@@ -75,7 +75,7 @@ module _ (F : Limits) (st out : List ℕ) (idle : (standing_of (stage_of F st)).
   unfolding move is_open
   idle-add t = idle-called (add t) go
     where
-      go : (s : Stage) → is_open s ≡ false → move F (add t) s (length out) ≡ refused (refusal OutOfTurn 0)
+      go : (s : Stage) → is_open s ≡ false → move F (add t) s (length out) ≡ Err (refusal OutOfTurn 0)
       go before e = refl
       go (opened ss) e = absurd (true≢false e)
       go (closed ss) e = refl
@@ -84,7 +84,7 @@ module _ (F : Limits) (st out : List ℕ) (idle : (standing_of (stage_of F st)).
   unfolding move is_open
   idle-drop = idle-called drop_last go
     where
-      go : (s : Stage) → is_open s ≡ false → move F drop_last s (length out) ≡ refused (refusal OutOfTurn 0)
+      go : (s : Stage) → is_open s ≡ false → move F drop_last s (length out) ≡ Err (refusal OutOfTurn 0)
       go before e = refl
       go (opened ss) e = absurd (true≢false e)
       go (closed ss) e = refl
@@ -93,7 +93,7 @@ module _ (F : Limits) (st out : List ℕ) (idle : (standing_of (stage_of F st)).
   unfolding move is_open
   idle-close = idle-called close go
     where
-      go : (s : Stage) → is_open s ≡ false → move F close s (length out) ≡ refused (refusal OutOfTurn 0)
+      go : (s : Stage) → is_open s ≡ false → move F close s (length out) ≡ Err (refusal OutOfTurn 0)
       go before e = refl
       go (opened ss) e = absurd (true≢false e)
       go (closed ss) e = refl
@@ -146,23 +146,23 @@ module _ (F : Limits) (ok : Assemblable F) (st out : List ℕ) (n bytes : ℕ) (
   -- add
   module _ (t : List ℕ) where
     -- a record of this length is held if it has room
-    abbrev held_then : ℕ → Result Move
+    abbrev held_then : ℕ → Answer Move
     held_then size =
         room_for (length out) (held_length w.held + size)
         (record { stage = opened (w.held ++ (shape_of t ∷ [])); at = held_length w.held; bytes = take size t })
 
-    add_read : (r : Result ℕ) → rule_only F n t ≡ r → called F (add t) st out ≡ moved F st out (and_then r held_then)
+    add_read : (r : Answer ℕ) → rule_only F n t ≡ r → called F (add t) st out ≡ moved F st out (and_then r held_then)
     unfolding move added
     add_read r e =
-        active-called (add t) ∙ ap (λ (q : Result ℕ). moved F st out (and_then q held_then)) (ap (λ (k : ℕ). rule_only F k t) w.count ∙ e)
+        active-called (add t) ∙ ap (λ (q : Answer ℕ). moved F st out (and_then q held_then)) (ap (λ (k : ℕ). rule_only F k t) w.count ∙ e)
 
-    pub add-refused : (x : Refusal) → rule_only F n t ≡ refused x → called F (add t) st out ≡ refused_call x st out
+    pub add-refused : (x : Refusal) → rule_only F n t ≡ Err x → called F (add t) st out ≡ refused_call x st out
     unfolding moved
-    add-refused x e = add_read (refused x) e ∙ ap (moved F st out) (refused-and-then x held_then)
+    add-refused x e = add_read (Err x) e ∙ ap (moved F st out) (refused-and-then x held_then)
 
-    module _ (size : ℕ) (read : rule_only F n t ≡ accepted size) where
+    module _ (size : ℕ) (read : rule_only F n t ≡ Ok size) where
       add-sized : called F (add t) st out ≡ moved F st out (held_then size)
-      add-sized = add_read (accepted size) read ∙ ap (moved F st out) (accepted-and-then size held_then)
+      add-sized = add_read (Ok size) read ∙ ap (moved F st out) (accepted-and-then size held_then)
 
       pub add-short : length out < bytes + size + 4 → called F (add t) st out ≡ refused_call (refusal OutputShort 0) st out
       unfolding room_for moved
@@ -170,14 +170,14 @@ module _ (F : Limits) (ok : Assemblable F) (st out : List ℕ) (n bytes : ℕ) (
 
       pub add-held : bytes + size + 4 ≤ length out → n < F.rules
           → called F (add t) st out
-          ≡ record { answer = Count (n + 1); state = with_shape F st (n + 1) n (heads_byte (shape_of t)) (body_byte (shape_of t)); buffer = write out bytes (take size t) }
+          ≡ record { answer = Ok (n + 1); state = with_shape F st (n + 1) n (heads_byte (shape_of t)) (body_byte (shape_of t)); buffer = write out bytes (take size t) }
       unfolding room_for moved shapes
       add-held e room =
           add-sized
           ∙ ap (moved F st out) (refuse-if-false _ _ _ (le-ltb (length out) (held_length w.held + size + 4) (omega (arith, w.sum))))
-          ∙ ap₂ (λ (k : ℕ) (b : ℕ). record { answer = Count k; state = encoded_stage F (opened (w.held ++ (shape_of t ∷ []))); buffer = write out b (take size t) })
+          ∙ ap₂ (λ (k : ℕ) (b : ℕ). record { answer = Ok k; state = encoded_stage F (opened (w.held ++ (shape_of t ∷ []))); buffer = write out b (take size t) })
           (length-append w.held (shape_of t ∷ []) ∙ ap (λ (k : ℕ). k + 1) w.count) w.sum
-          ∙ ap (λ (x : List ℕ). record { answer = Count (n + 1); state = x; buffer = write out bytes (take size t) })
+          ∙ ap (λ (x : List ℕ). record { answer = Ok (n + 1); state = x; buffer = write out bytes (take size t) })
           (sym (shape-more F w.held (shape_of t) (omega (arith, w.count)))
           ∙ ap₂ (λ (x : List ℕ) (k : ℕ). with_shape F x (k + 1) k (heads_byte (shape_of t)) (body_byte (shape_of t))) (sym w.state) w.count)
 
@@ -186,14 +186,14 @@ module _ (F : Limits) (ok : Assemblable F) (st out : List ℕ) (n bytes : ℕ) (
   unfolding move dropped moved
   drop-none e = active-called drop_last ∙ ap (moved F st out) (refuse-if-true _ _ _ (eq-eqb (length w.held) 0 (w.count ∙ e)))
 
-  pub drop-held : 0 < n → called F drop_last st out ≡ record { answer = Count (n - 1); state = with_shape F st (n - 1) (n - 1) 0 0; buffer = out }
+  pub drop-held : 0 < n → called F drop_last st out ≡ record { answer = Ok (n - 1); state = with_shape F st (n - 1) (n - 1) 0 0; buffer = out }
   unfolding move dropped moved shapes
   drop-held some =
       active-called drop_last
       ∙ ap (moved F st out) (refuse-if-false _ _ _ (ne_eqb (length w.held) 0 (λ z. omega (arith, z, w.count))))
-      ∙ ap₂ (λ (k : ℕ) (b : List ℕ). record { answer = Count k; state = encoded_stage F (opened (take (length w.held - 1) w.held)); buffer = b })
+      ∙ ap₂ (λ (k : ℕ) (b : List ℕ). record { answer = Ok k; state = encoded_stage F (opened (take (length w.held - 1) w.held)); buffer = b })
       (length-take-le (length w.held - 1) w.held (omega arith) ∙ ap (λ (k : ℕ). k - 1) w.count) (write-nil out 0)
-      ∙ ap (λ (x : List ℕ). record { answer = Count (n - 1); state = x; buffer = out })
+      ∙ ap (λ (x : List ℕ). record { answer = Ok (n - 1); state = x; buffer = out })
       (sym (shape-less F w.held (omega (arith, w.count)) (omega (arith, w.count, w.few)))
       ∙ ap₂ (λ (x : List ℕ) (k : ℕ). with_shape F x (k - 1) (k - 1) 0 0) (sym w.state) w.count)
 
@@ -203,13 +203,13 @@ module _ (F : Limits) (ok : Assemblable F) (st out : List ℕ) (n bytes : ℕ) (
   close-short e = active-called close ∙ ap (moved F st out) (refuse-if-true _ _ _ (lt-ltb (length out) (held_length w.held + 4) (omega (arith, w.sum))))
 
   pub close-held : bytes + 4 ≤ length out
-      → called F close st out ≡ record { answer = Count n; state = write st 0 (2 ∷ []); buffer = write out bytes (encoded_end n) }
+      → called F close st out ≡ record { answer = Ok n; state = write st 0 (2 ∷ []); buffer = write out bytes (encoded_end n) }
   unfolding move ended room_for moved shapes
   close-held e =
       active-called close
       ∙ ap (moved F st out) (refuse-if-false _ _ _ (le-ltb (length out) (held_length w.held + 4) (omega (arith, w.sum))))
-      ∙ ap₂ (λ (k b : ℕ). record { answer = Count k; state = encoded_stage F (closed w.held); buffer = write out b (encoded_end k) }) w.count w.sum
-      ∙ ap (λ (x : List ℕ). record { answer = Count n; state = x; buffer = write out bytes (encoded_end n) })
+      ∙ ap₂ (λ (k b : ℕ). record { answer = Ok k; state = encoded_stage F (closed w.held); buffer = write out b (encoded_end k) }) w.count w.sum
+      ∙ ap (λ (x : List ℕ). record { answer = Ok n; state = x; buffer = write out bytes (encoded_end n) })
       (sym (stage-closed F w.held) ∙ ap (λ (x : List ℕ). write x 0 (2 ∷ [])) (sym w.state))
 
 -- the length that is assembled, by what a state says

@@ -1,10 +1,10 @@
 -- Laws of what a state says, test by test.
--- In order: each test of the header, where those before it passed; figures within the limits; a test of a state that
--- fails; a state that passes all.
+-- In order: each test of the header, where those before it passed; what passed tests say; a test of a state that fails; a state
+-- that passes all.
 -- Assumes nothing.
 use Prim.Native.Nat.{ℕ, zero, suc, ◌+◌, ◌*◌, ◌≤◌, ◌<◌}
 use native.Mathlib.Omega.{arith}
-use mathlib.Core.Path.{◌≡◌, refl, sym, ◌∙◌, ap, ap₂}
+use mathlib.Core.Path.{◌≡◌, refl, sym, ◌∙◌, ap, ap₂, subst}
 use mathlib.Core.Bool.{Bool, true, false, cond, ◌&&◌, and-false}
 use mathlib.Core.List.{List, [], ◌∷◌}
 use lib.Dec.{leb, eqb}
@@ -17,9 +17,9 @@ use Rattle.semantics.proofs.Laws.Tests.{along}
 use Rattle.assembly.specs.State.{before, Shape, shapes, held_length, keeps_shape, state_bytes, shapes_at, count_at, count_right, is_headed, held_shapes, is_state, stage_with, stage_of}
 use Rattle.assembly.specs.Code.{is_open, standing_of}
 use Rattle.assembly.proofs.Laws.Row.{length-shapes}
-use Rattle.assembly.proofs.Laws.State.{headed-parts, stage-of, stage-none}
+use Rattle.assembly.proofs.Laws.State.{Headed, headed-parts, stage-of, stage-none}
 use Rattle.assembly_state.specs.declared.Tally.{Tally}
-use Rattle.assembly_state.specs.Code.{heads_of, body_of, within, clear_behind, Tallied}
+use Rattle.assembly_state.specs.Code.{heads_of, body_of, clear_behind, Tallied}
 
 -- the header's tests, one after another
 module _ (F : Limits) (bs : List ℕ) where
@@ -76,13 +76,12 @@ module _ (F : Limits) (bs : List ℕ) where
             unfolding count_right
             headed-begun e = headed-count ∙ ap (λ (t : Bool). cond t (eqb (count_at bs) 0) (leb (count_at bs) F.rules)) (ne_eqb (get_or bs 0 0) 0 e)
 
--- figures within the limits: the heads, then the body
-module _ (F : Limits) (h b : ℕ) where
-  pub heads-wrong : F.heads < h → within F h b ≡ false
-  heads-wrong e = ap (λ (t : Bool). t && leb b (F.positives + F.nafs)) (lt-leb h F.heads e)
+-- the header's parts, and the tally of as many rules as are held
+pub headed-by : {F : Limits} {bs : List ℕ} {b : Bool} → b ≡ is_headed F bs → b ≡ true → Headed F bs
+headed-by {F} {bs} e t = headed-parts F bs (along (sym (sym e ∙ t)) tt)
 
-  pub heads-right : h ≤ F.heads → within F h b ≡ leb b (F.positives + F.nafs)
-  heads-right e = ap (λ (t : Bool). t && leb b (F.positives + F.nafs)) (le-leb h F.heads e)
+pub tallied-told : {F : Limits} {bs : List ℕ} {r : Tally} {n m : ℕ} → Tallied F bs n r → n ≡ m → Tallied F bs m r
+tallied-told {F} {bs} {r} w e = subst (λ (k : ℕ). Tallied F bs k r) e w
 
 -- what is no state
 module _ (F : Limits) (bs : List ℕ) where

@@ -10,6 +10,7 @@ use mathlib.Core.Path.{◌≡◌, sym, ◌∙◌, ap, ap₂}
 use mathlib.Core.List.{List, [], ◌∷◌, ◌++◌, append_assoc}
 use lib.ListN.{length, take, drop, set, length-append, length-drop, take-append-drop}
 use lib.Seq.{sets, sets-eq, take_at, drop_at, drop-drop, length-take-le, take-append-le, drop-append-le, take-append-add, drop-append-add}
+use borrow.Rule.Slice.PartMut.{put_mid}
 use Rattle.buffer.specs.Write.{write}
 
 module _ (d : List ℕ) (at : ℕ) where
@@ -26,6 +27,11 @@ module _ (d : List ℕ) (at : ℕ) where
   -- one store is a write of one element
   pub set-write : (v : ℕ) → at < length d → set d at v ≡ write d at (v ∷ [])
   set-write v h = sets-write (v ∷ []) (omega arith)
+
+  -- what a part of a slice holds once it is back, at what was copied into it, is one write
+  pub part-write : (k : ℕ) {xs : List ℕ} (bs : List ℕ) → xs ≡ bs → length bs ≡ k → put_mid at k d xs ≡ write d at bs
+  unfolding write
+  part-write k {xs} bs same long = rw (same, drop-drop, long)
 
   -- the stores of two elements in a row are one write
   pub two-sets-write : (a b : ℕ) → at + 2 ≤ length d → set (set d at a) (at + 1) b ≡ write d at (a ∷ b ∷ [])

@@ -1,11 +1,11 @@
 -- The search for a clash in the slice of a set that was read finds what the definition on literals does.
--- In order: a position as a number; the opposite of one literal; the first clash; the answer, each way. Assumes nothing.
-use Prim.Native.Nat.{ℕ, ◌+◌, ◌<◌}
-use native.Mathlib.Omega.{arith}
-use mathlib.Core.Path.{◌≡◌, refl, sym, ◌∙◌, ap, ap₂, subst}
+-- In order: a position as it is answered; the opposite of one literal; the first clash; the answer, each way. Assumes nothing.
+use Prim.Native.Nat.{ℕ, ◌+◌}
+use mathlib.Core.Path.{◌≡◌, refl, ◌∙◌, ap, ap₂, subst}
 use mathlib.Core.Bool.{Bool, true, false, cond}
 use mathlib.Core.List.{List, [], ◌∷◌, ◌++◌}
 use mathlib.Core.Option.{Option, none, some}
+use Rattle.std.specs.Prelude.{Option as Maybe, Some, None, Ok}
 use lib.ListN.{length, drop}
 use Rattle.buffer.specs.Bytes.{Bytes}
 use Rattle.buffer.proofs.Laws.Bytes.{bytes_drop}
@@ -19,20 +19,18 @@ use Rattle.literal.proofs.Laws.Literal.{encoded-fits}
 use Rattle.literal.proofs.Laws.Sign.{option-first}
 use Rattle.semantics.specs.Set.{set_of}
 use Rattle.semantics.specs.Verdict.{opposed, clash_from}
-use Rattle.semantics.proofs.Laws.Verdict.{clash-some}
-use Rattle.record.specs.Result.{accepted}
 use Rattle.record.specs.Layout.{encoded_literals}
 use Rattle.set.specs.Reading.{parsed_set}
 use Rattle.set.specs.Code.{key_set}
 use Rattle.set.proofs.Laws.Keys.{keys-behind, literals-lie, read-agree}
 use Rattle.check_clash.specs.Code.{opposed_in, clash_at}
 
--- a position as the search answers it: 0 for none
-unfoldable position_of : Option ℕ → ℕ
-position_of none = 0
-position_of (some k) = k
+-- a position as the search answers it
+unfoldable position_of : Option ℕ → Maybe ℕ
+position_of none = None
+position_of (some k) = Some k
 
-module _ (F : Limits) (most : ℕ) (s : List ℕ) (ls : List Literal) (bytes : Bytes s) (e : parsed_set F most s ≡ accepted ls) where
+module _ (F : Limits) (most : ℕ) (s : List ℕ) (ls : List Literal) (bytes : Bytes s) (e : parsed_set F most s ≡ Ok ls) where
   -- the literal at the start of a slice
   opposed-encoded : (l : Literal) (rest : List ℕ) → Bytes (encoded l ++ rest) → opposed_in s (length ls) (encoded l ++ rest) ≡ opposed (set_of ls) l
   unfolding opposed_in opposed encoded kind tag_field atom_field opposite
@@ -53,12 +51,12 @@ module _ (F : Limits) (most : ℕ) (s : List ℕ) (ls : List Literal) (bytes : B
   unfolding clash_at clash_from position_of encoded_literals
   clash-from [] at k lie = refl
   clash-from (l ∷ ms) at k lie =
-      ap₂ (λ (b : Bool) (n : ℕ). cond b k n) here (clash-from ms (at + 5) (k + 1) (keys-behind s at l ms lie)) ∙ choose (opposed (set_of ls) l)
+      ap₂ (λ (b : Bool) (n : Maybe ℕ). cond b (Some k) n) here (clash-from ms (at + 5) (k + 1) (keys-behind s at l ms lie)) ∙ choose (opposed (set_of ls) l)
     where
       here : opposed_in s (length ls) (drop at s) ≡ opposed (set_of ls) l
       here = ap (opposed_in s (length ls)) lie ∙ opposed-encoded l (encoded_literals ms) (subst Bytes lie (bytes_drop at s bytes))
 
-      choose : (b : Bool) → cond b k (position_of (clash_from (k + 1) (set_of ls) ms)) ≡ position_of (cond b (some k) (clash_from (k + 1) (set_of ls) ms))
+      choose : (b : Bool) → cond b (Some k) (position_of (clash_from (k + 1) (set_of ls) ms)) ≡ position_of (cond b (some k) (clash_from (k + 1) (set_of ls) ms))
       choose true = refl
       choose false = refl
 
@@ -66,19 +64,19 @@ module _ (F : Limits) (most : ℕ) (s : List ℕ) (ls : List Literal) (bytes : B
   clash-answer = clash-from ls 4 1 (literals-lie F most s ls bytes e)
 
   -- a position that is answered is that of the first clash
-  pub clash-found : (r : ℕ) → r ≡ clash_at s (length ls) 1 4 (length ls) → 0 < r → clash_from 1 (set_of ls) ls ≡ some r
+  pub clash-found : (r : ℕ) → Some r ≡ clash_at s (length ls) 1 4 (length ls) → clash_from 1 (set_of ls) ls ≡ some r
   unfolding position_of
-  clash-found r q h = go (clash_from 1 (set_of ls) ls) (q ∙ clash-answer)
+  clash-found r q = go (clash_from 1 (set_of ls) ls) (q ∙ clash-answer)
     where
-      go : (o : Option ℕ) → r ≡ position_of o → o ≡ some r
-      go none x = absurd (omega (arith, x))
-      go (some k) x = ap some (sym x)
+      go : (o : Option ℕ) → Some r ≡ position_of o → o ≡ some r
+      go none x = cc
+      go (some k) x = cc
 
-  -- and 0 says that there is none
-  pub clash-absent : clash_at s (length ls) 1 4 (length ls) ≡ 0 → clash_from 1 (set_of ls) ls ≡ none
+  -- and without an answer there is none
+  pub clash-absent : None ≡ clash_at s (length ls) 1 4 (length ls) → clash_from 1 (set_of ls) ls ≡ none
   unfolding position_of
-  clash-absent q = go (clash_from 1 (set_of ls) ls) refl (sym clash-answer ∙ q)
+  clash-absent q = go (clash_from 1 (set_of ls) ls) (q ∙ clash-answer)
     where
-      go : (o : Option ℕ) → clash_from 1 (set_of ls) ls ≡ o → position_of o ≡ 0 → o ≡ none
-      go none r x = refl
-      go (some k) r x = absurd (omega (arith, (clash-some 1 (set_of ls) ls k r).position, x))
+      go : (o : Option ℕ) → None ≡ position_of o → o ≡ none
+      go none x = refl
+      go (some k) x = cc

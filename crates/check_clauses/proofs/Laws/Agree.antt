@@ -6,6 +6,7 @@ use mathlib.Core.Path.{◌≡◌, refl, ◌∙◌, ap, ap₂}
 use mathlib.Core.Bool.{cond}
 use mathlib.Core.List.{List, [], ◌∷◌}
 use mathlib.Core.Option.{Option, none, some}
+use Rattle.std.specs.Prelude.{Option as Maybe, Some, None}
 use lib.Bits.{bit_or}
 use Rattle.literal.specs.declared.Literal.{Literal}
 use Rattle.semantics.specs.Set.{LiteralSet, each_of}
@@ -13,14 +14,14 @@ use Rattle.semantics.specs.Rule.{Rule, Remainder}
 use Rattle.semantics.specs.Meaning.{remainder}
 use Rattle.semantics.proofs.Laws.Tests.{Each}
 use Rattle.semantics.proofs.Laws.Agree.{Speaks, Left, each-remainder, all_same, remainder-same}
-use Rattle.check_clauses.specs.declared.Clause.{Clause}
-use Rattle.check_clauses.specs.Code.{union, no_clause}
+use Rattle.check_force.specs.declared.Clause.{Clause}
+use Rattle.check_clauses.specs.Code.{union}
 
 -- the clause of what a set u leaves of a rule, where f gives the literals' positions: none where nothing is left, and none
 -- where a positive literal is not in u, for then it holds in each part of u
-unfoldable pub clause_of : LiteralSet → (Literal → ℕ) → Option Remainder → Clause
-clause_of u f none = no_clause
-clause_of u f (some q) = cond (each_of u q.positive) (record { count = 1; body = union f q.positive; head = union f q.head }) no_clause
+unfoldable pub clause_of : LiteralSet → (Literal → ℕ) → Option Remainder → Maybe Clause
+clause_of u f none = None
+clause_of u f (some q) = cond (each_of u q.positive) (Some (record { body = union f q.positive; head = union f q.head })) None
 
 module _ (P : Literal → Type 0) (u v : LiteralSet) (f g : Literal → ℕ) (same_set : (l : Literal) → P l → u l ≡ v l)
     (same-mask : (l : Literal) → P l → f l ≡ g l)

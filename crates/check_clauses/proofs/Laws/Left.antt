@@ -1,58 +1,41 @@
--- Laws of the options that are left of a record, and of their positions.
--- In order: one option; the first and those behind it, none; how many. Assumes nothing.
-use Prim.Native.Nat.{ℕ, ◌+◌, ◌-◌, ◌≤◌, ◌<◌}
-use native.Mathlib.Omega.{arith}
-use mathlib.Core.Path.{◌≡◌, sym, ◌∙◌, ap}
-use mathlib.Core.Bool.{true, false}
-use mathlib.Core.List.{List}
-use lib.Bits.{bit_or, or_zero_r}
-use lib.ListN.{length}
+-- Laws of the options that are left and their positions, gathered one by one.
+-- Assumes nothing.
+use Rattle.std.specs.Prelude.{ℕ, ◌+◌, ◌-◌, ◌*◌, ◌<◌, ◌≡◌, true, false, List, length, Some, None}
+use Rattle.std.proofs.Common.{sym, ◌∙◌, ap}
+use lib.Bits.{bit_or}
+use borrow.Author.Tests.{eq-eqb, ne_eqb}
 use Rattle.literal.specs.declared.Literal.{Literal}
 use Rattle.literal.specs.declared.Literal.TheVariants.{Signed, Defeated}
 use Rattle.literal.specs.Order.{key}
-use Rattle.mask.proofs.Laws.Part.{or_assoc}
 use Rattle.record_walk.specs.Code.{tag_at, option_at}
 use Rattle.set.specs.Code.{key_set}
 use Rattle.quotient_rule.specs.Code.{left_at}
-use Rattle.quotient_rule.proofs.Laws.Left.{left-defeated, left-kept, left-first, left-count, left-few}
-use Rattle.check_clauses.specs.declared.Left.{Left}
+use Rattle.quotient_rule.proofs.Laws.Left.{left-passed, left-taken}
 use Rattle.check_clauses.specs.Code.{key_mask, union, literal_mask, left_of}
-use Rattle.check_clauses.proofs.Laws.Union.{union-append}
+use Rattle.check_clauses.proofs.Laws.Union.{union-next}
 
-module _ (t s : List ℕ) (n : ℕ) where
-  -- an option that is defeated, and one that is left
-  pub mask-defeated : (at : ℕ) → key_set s n (Defeated (tag_at t) (option_at t at)) ≡ true → left_of s n (left_at t s n at 1) ≡ record { count = 0; mask = 0 }
-  unfolding left_of union
-  mask-defeated at e = ap (left_of s n) (left-defeated t s n at e)
+-- the positions of those that are left, behind some that were gathered
+module _ (t s : List ℕ) (n m i so : ℕ) (l : i < m) where
+  abbrev rest : ℕ → List Literal
+  rest j = left_at t s n (7 + 5 * j) (m - j)
 
-  pub mask-kept : (at : ℕ) → key_set s n (Defeated (tag_at t) (option_at t at)) ≡ false
-      → left_of s n (left_at t s n at 1) ≡ record { count = 1; mask = key_mask s n (key (Signed (option_at t at))) }
-  unfolding left_of union
-  mask-kept at e =
-      ap (left_of s n) (left-kept t s n at e) ∙ ap (λ (m : ℕ). record { count = 1; mask = m }) (or_zero_r (key_mask s n (key (Signed (option_at t at)))))
+  pub mask-passed : key_set s n (Defeated (tag_at t) (option_at t (7 + 5 * i))) ≡ true
+      → bit_or so (union (literal_mask s n) (rest i)) ≡ bit_or so (union (literal_mask s n) (rest (i + 1)))
+  mask-passed e = ap (λ (ls : List Literal). bit_or so (union (literal_mask s n) ls)) (left-passed t s n 7 m i l e)
 
-  -- the first, and those behind it
-  pub count-first : (at m : ℕ) (one : Left) → 0 < m → one ≡ left_of s n (left_at t s n at 1)
-      → length (left_at t s n at m) ≡ one.count + length (left_at t s n (at + 5) (m - 1))
+  pub mask-taken : key_set s n (Defeated (tag_at t) (option_at t (7 + 5 * i))) ≡ false → (one : ℕ) → one ≡ key_mask s n (key (Signed (option_at t (7 + 5 * i))))
+      → bit_or so (union (literal_mask s n) (rest i)) ≡ bit_or (bit_or so one) (union (literal_mask s n) (rest (i + 1)))
+  mask-taken e one q =
+      ap (λ (ls : List Literal). bit_or so (union (literal_mask s n) ls)) (left-taken t s n 7 m i l e)
+      ∙ union-next (literal_mask s n) so (Signed (option_at t (7 + 5 * i))) (rest (i + 1))
+      ∙ ap (λ (k : ℕ). bit_or (bit_or so k) (union (literal_mask s n) (rest (i + 1)))) (sym q)
+
+-- none, and some, gathered
+module _ (s : List ℕ) (n : ℕ) (ls : List Literal) where
+  pub left-nothing : length ls ≡ 0 → left_of s n ls ≡ None
   unfolding left_of
-  count-first at m one h e = left-count t s n at m h ∙ ap (λ (x : Left). x.count + length (left_at t s n (at + 5) (m - 1))) (sym e)
+  left-nothing e = rw (eq-eqb (length ls) 0 e)
 
-  pub mask_first : (at m so : ℕ) (one : Left) → 0 < m → one ≡ left_of s n (left_at t s n at 1)
-      → bit_or so (union (literal_mask s n) (left_at t s n at m)) ≡ bit_or (bit_or so one.mask) (union (literal_mask s n) (left_at t s n (at + 5) (m - 1)))
+  pub left-gathered : (mask : ℕ) → (length ls ≡ 0 → ⊥) → mask ≡ union (literal_mask s n) ls → left_of s n ls ≡ Some mask
   unfolding left_of
-  mask_first at m so one h e =
-      ap (λ (ls : List Literal). bit_or so (union (literal_mask s n) ls)) (left-first t s n at m h)
-      ∙ ap (bit_or so) (union-append (literal_mask s n) (left_at t s n at 1) (left_at t s n (at + 5) (m - 1)))
-      ∙ sym (or_assoc so (union (literal_mask s n) (left_at t s n at 1)) (union (literal_mask s n) (left_at t s n (at + 5) (m - 1))))
-      ∙ ap (λ (x : Left). bit_or (bit_or so x.mask) (union (literal_mask s n) (left_at t s n (at + 5) (m - 1)))) (sym e)
-
-  -- one option is left or none
-  pub count-one : (at : ℕ) (one : Left) → one ≡ left_of s n (left_at t s n at 1) → one.count ≤ 1
-  unfolding left_of
-  count-one at one e = omega (arith, ap (λ (x : Left). x.count) e, left-few t s n at 1)
-
--- how many are left, and their positions, gathered
-pub left-gathered : (s : List ℕ) (n : ℕ) (ls : List Literal) (count mask : ℕ) → count ≡ length ls → mask ≡ union (literal_mask s n) ls
-    → record { count = count; mask = mask } ≡ left_of s n ls
-unfolding left_of
-left-gathered s n ls count mask e m = rw (e, m)
+  left-gathered mask f e = rw (ne_eqb (length ls) 0 f, e)

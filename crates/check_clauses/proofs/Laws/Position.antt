@@ -11,7 +11,7 @@ use lib.ListN.{drop}
 use lib.Pow.{pow_pos}
 use borrow.Author.Tests.{eq-eqb, ne_eqb}
 use Rattle.literal.specs.Code.{key_at}
-use Rattle.set.specs.Code.{Ascends, has_key_from, has_key, Place}
+use Rattle.set.specs.Code.{Ascends, has_key_from, has_key, At}
 use Rattle.set.proofs.Laws.Search.{number-first, number-next}
 use Rattle.check_clauses.specs.Code.{key_mask_from, key_mask}
 
@@ -75,7 +75,7 @@ module _ (s : List ℕ) (k : ℕ) where
         go false q = absurd (f (key-mask-none q))
 
     -- the mask of a key, by the place of its literal
-    pub key-mask-place : Ascends s n → (r : ℕ) → Place s n k r → r < n → key_mask s n k ≡ 2 ^ (n - 1 - r)
+    pub key-mask-place : Ascends s n → (r : ℕ) → At s n k r → key_mask s n k ≡ 2 ^ (n - 1 - r)
     unfolding key_mask
-    key-mask-place up r p h =
-        found_from 4 n r (λ i l e. omega (arith, up i r l h, p.found h, e)) h (p.found h)
+    key-mask-place up r p =
+        found_from 4 n r (λ i l e. omega (arith, up i r l p.inside, p.same, e)) p.inside p.same

@@ -21,7 +21,8 @@ use Rattle.record.specs.Layout.{encoded_literals}
 use Rattle.record_walk.proofs.Laws.Fields.{Fields, literals-first, literals-next}
 use Rattle.set.specs.Code.{has_key, key_set}
 use Rattle.quotient_rule.proofs.Laws.Rule.{nafs-met}
-use Rattle.check_clauses.specs.Code.{key_mask, keys_at, union, literal_mask, no_clause, clause_with, clause_at}
+use Rattle.std.specs.Prelude.{Some, None}
+use Rattle.check_clauses.specs.Code.{key_mask, keys_at, union, literal_mask, clause_with, clause_at}
 
 -- the keys of literals that stand in a slice
 keys-spelled : (t : List ℕ) (ls : List Literal) (at : ℕ) (rest : List ℕ) → drop at t ≡ encoded_literals ls ++ rest → keys_at t at (length ls) ≡ map key ls
@@ -47,12 +48,12 @@ module _ (t s : List ℕ) (n : ℕ) (letter tag : ℕ) (h b c : List Literal) (r
   fields-heads : keys_at t 7 (head_count t) ≡ map key h
   fields-heads = rw f.heads (keys-spelled t h 7 (encoded_literals (b ++ c) ++ rest) (literals-first (drop 7 t) rest h (b ++ c) f.literals))
 
-  pub clause-fields : clause_at t s n ≡ cond (some_of (key_set s n) c) no_clause
-      (cond (each_of (key_set s n) b) (clause_with t (union (literal_mask s n) b) s n) no_clause)
+  pub clause-fields : clause_at t s n ≡ cond (some_of (key_set s n) c) None
+      (cond (each_of (key_set s n) b) (clause_with t (union (literal_mask s n) b) s n) None)
   unfolding clause_at
   clause-fields = rw (nafs-met t s n letter tag h b c rest f, fields-positives, all_map (has_key s n) key b, union-map (key_mask s n) b)
 
   -- with the letter of a strict rule
-  pub with-fields : (body : ℕ) → letter ≡ strict_letter → clause_with t body s n ≡ record { count = 1; body = body; head = union (literal_mask s n) h }
+  pub with-fields : (body : ℕ) → letter ≡ strict_letter → clause_with t body s n ≡ Some (record { body = body; head = union (literal_mask s n) h })
   unfolding clause_with
   with-fields body e = rw (f.of-letter, e, fields-heads, union-map (key_mask s n) h)

@@ -6,6 +6,7 @@ use mathlib.Core.Path.{◌≡◌, refl, ◌∙◌, ap}
 use mathlib.Core.Bool.{Bool, true, false, cond}
 use mathlib.Core.List.{List, [], ◌∷◌, map}
 use mathlib.Core.Option.{none, some}
+use Rattle.std.specs.Prelude.{Option as Maybe, Some, None}
 use lib.Dec.{eqb}
 use lib.ListN.{length}
 use borrow.Author.Tests.{ne_eqb}
@@ -21,8 +22,8 @@ use Rattle.record_walk.specs.Code.{Starts}
 use Rattle.record_walk.proofs.Laws.Fields.{strict-fields, defeasible-fields}
 use Rattle.set.specs.Code.{key_set}
 use Rattle.quotient_rule.proofs.Laws.Rule.{left-undefeated}
-use Rattle.check_clauses.specs.declared.Clause.{Clause}
-use Rattle.check_clauses.specs.Code.{union, literal_mask, no_clause, clause_with, clause_at}
+use Rattle.check_force.specs.declared.Clause.{Clause}
+use Rattle.check_clauses.specs.Code.{union, literal_mask, clause_with, clause_at}
 use Rattle.check_clauses.proofs.Laws.Agree.{clause_of}
 use Rattle.check_clauses.proofs.Laws.Record.{clause-fields, with-fields}
 
@@ -33,30 +34,30 @@ module _ (t s : List ℕ) (n : ℕ) where
   strict-starts h b c w =
       let f = strict-fields t h b c w in
       clause-fields t s n strict_letter 0 h b c w.rest f
-      ∙ ap (λ (x : Clause). cond (some_of (key_set s n) c) no_clause (cond (each_of (key_set s n) b) x no_clause))
+      ∙ ap (λ (x : Maybe Clause). cond (some_of (key_set s n) c) None (cond (each_of (key_set s n) b) x None))
       (with-fields t s n strict_letter 0 h b c w.rest f (union (literal_mask s n) b) refl)
       ∙ go (some_of (key_set s n) c)
     where
-      go : (x : Bool) → cond x no_clause (cond (each_of (key_set s n) b)
-          (record { count = 1; body = union (literal_mask s n) b; head = union (literal_mask s n) h }) no_clause)
+      go : (x : Bool) → cond x None (cond (each_of (key_set s n) b)
+          (Some (record { body = union (literal_mask s n) b; head = union (literal_mask s n) h })) None)
           ≡ clause_of (key_set s n) (literal_mask s n) (cond x none (some (record { head = h; positive = b })))
       go true = refl
       go false = refl
 
   with-options : (g : Tag) (h : List SignedAtom) (b c : List Literal) → Starts t (defeasible g h b c) → (body : ℕ)
-      → clause_with t body s n ≡ cond (eqb (length (undefeated g h (key_set s n))) 0) no_clause
-      (record { count = 1; body = body; head = union (literal_mask s n) (undefeated g h (key_set s n)) })
+      → clause_with t body s n ≡ cond (eqb (length (undefeated g h (key_set s n))) 0) None
+      (Some (record { body = body; head = union (literal_mask s n) (undefeated g h (key_set s n)) }))
   unfolding clause_with
   with-options g h b c w body = rw ((defeasible-fields t g h b c w).of-letter, left-undefeated t s n g h b c w)
 
 -- the clause of options that are left
 option-clause : (u : LiteralSet) (f : Literal → ℕ) (b ls : List Literal)
-    → cond (each_of u b) (cond (eqb (length ls) 0) no_clause (record { count = 1; body = union f b; head = union f ls })) no_clause
+    → cond (each_of u b) (cond (eqb (length ls) 0) None (Some (record { body = union f b; head = union f ls }))) None
     ≡ clause_of u f (unless_empty ls b)
 unfolding clause_of unless_empty
 option-clause u f b [] = go (each_of u b)
   where
-    go : (x : Bool) → cond x no_clause no_clause ≡ no_clause
+    go : (x : Bool) → cond {A = Maybe Clause} x None None ≡ None
     go true = refl
     go false = refl
 option-clause u f b (l ∷ ls) = rw (ne_eqb (length (l ∷ ls)) 0 (λ e. omega arith))
@@ -67,12 +68,12 @@ module _ (t s : List ℕ) (n : ℕ) where
   unfolding remainder clause_of
   defeasible-starts g h b c w =
       clause-fields t s n defeasible_letter g.0 (map Signed h) b c w.rest (defeasible-fields t g h b c w)
-      ∙ ap (λ (x : Clause). cond (some_of (key_set s n) c) no_clause (cond (each_of (key_set s n) b) x no_clause))
+      ∙ ap (λ (x : Maybe Clause). cond (some_of (key_set s n) c) None (cond (each_of (key_set s n) b) x None))
       (with-options t s n g h b c w (union (literal_mask s n) b))
-      ∙ ap (cond (some_of (key_set s n) c) no_clause) (option-clause (key_set s n) (literal_mask s n) b (undefeated g h (key_set s n)))
+      ∙ ap (cond (some_of (key_set s n) c) None) (option-clause (key_set s n) (literal_mask s n) b (undefeated g h (key_set s n)))
       ∙ go (some_of (key_set s n) c)
     where
-      go : (x : Bool) → cond x no_clause (clause_of (key_set s n) (literal_mask s n) (unless_empty (undefeated g h (key_set s n)) b))
+      go : (x : Bool) → cond x None (clause_of (key_set s n) (literal_mask s n) (unless_empty (undefeated g h (key_set s n)) b))
           ≡ clause_of (key_set s n) (literal_mask s n) (cond x none (unless_empty (undefeated g h (key_set s n)) b))
       go true = refl
       go false = refl

@@ -1,27 +1,25 @@
 -- Laws of one rule more, by what its clause tells: whether it is broken, and the clauses of the rules before it and its own.
--- In order: a store behind those before; the first broken rule of an append; a rule that is broken, and one that is not; the bodies
--- and the heads of an append, and of one rule more.
+-- In order: the first broken rule of an append; the clauses of an append; a rule that is broken, and one that is not; the clauses of one
+-- rule more.
 -- Assumes nothing.
 use Prim.Native.Nat.{ℕ, ◌+◌, ◌<◌}
 use native.Mathlib.Omega.{arith}
-use native.Mathlib.Nat.{add-zero}
 use native.Mathlib.Numerals.{add-one}
 use mathlib.Core.Path.{◌≡◌, refl, sym, ◌∙◌, ap}
 use mathlib.Core.Bool.{Bool, true, false, cond}
 use mathlib.Core.List.{List, [], ◌∷◌, ◌++◌, append-nil}
 use mathlib.Core.Option.{none, some}
 use lib.ListN.{length, take, set}
-use lib.Seq.{take-set-le, take-suc-set}
+use lib.Seq.{take-suc-set}
 use Rattle.literal.specs.declared.Literal.{Literal}
 use Rattle.semantics.specs.Set.{LiteralSet, each_of, set_of}
 use Rattle.semantics.specs.Rule.{Rule, Program, Remainder}
 use Rattle.semantics.specs.Meaning.{remainder, with_remainder, quotient, satisfied}
 use Rattle.semantics.specs.Verdict.{broken_from}
 use Rattle.semantics.proofs.Laws.Meaning.{quotient-append}
-use Rattle.check_force.specs.Code.{masks_of, bodies_of, heads_of}
-use Rattle.check_clauses.specs.declared.Clause.{Clause}
-use Rattle.check_clauses.specs.Code.{is_broken}
-use Rattle.check_clauses.proofs.Laws.Told.{Told, without, with-one, told-holds, told-broken}
+use Rattle.check_force.specs.declared.Clause.{Clause}
+use Rattle.check_force.specs.Code.{masks_of, clauses_of}
+use Rattle.check_clauses.proofs.Laws.Told.{Without, With}
 
 -- where no rule of the first part is broken, the second part's first is the first
 pub broken-append : (s : LiteralSet) (n : ℕ) (p q : Program) → broken_from n p s ≡ none → broken_from n (p ++ q) s ≡ broken_from (n + length p) q s
@@ -35,67 +33,51 @@ broken-append s n (r ∷ p) q e = go (satisfied (remainder r s) s) e (broken-app
     go true k rest = rest k ∙ ap (λ (m : ℕ). broken_from m q s) (omega arith)
     go false k rest = let z : ◌≡◌ {A = ℕ} 0 1 = cc in absurd (omega arith)
 
--- a store behind the first i, counted or not
-store-counted : (d : List ℕ) (i x : ℕ) → i < length d → take (i + 1) (set d i x) ≡ take i d ++ x ∷ []
-store-counted d i x h = ap (λ (k : ℕ). take k (set d i x)) (add-one i) ∙ take-suc-set d i x h
-
-store-uncounted : (d : List ℕ) (i x : ℕ) → take (i + 0) (set d i x) ≡ take i d ++ []
-store-uncounted d i x = ap (λ (k : ℕ). take k (set d i x)) (add-zero i) ∙ take-set-le i d i x (omega arith) ∙ sym (append-nil (take i d))
-
 module _ (ls : List Literal) where
-  -- the bodies, and the heads, of an append
-  bodies-append : (qs rs : List Remainder) → bodies_of ls (qs ++ rs) ≡ bodies_of ls qs ++ bodies_of ls rs
-  unfolding bodies_of
-  bodies-append [] rs = refl
-  bodies-append (q ∷ qs) rs = go (each_of (set_of ls) q.positive) (bodies-append qs rs)
+  -- the clauses of an append
+  clauses-append : (qs rs : List Remainder) → clauses_of ls (qs ++ rs) ≡ clauses_of ls qs ++ clauses_of ls rs
+  unfolding clauses_of
+  clauses-append [] rs = refl
+  clauses-append (q ∷ qs) rs = go (each_of (set_of ls) q.positive) (clauses-append qs rs)
     where
-      go : (b : Bool) → bodies_of ls (qs ++ rs) ≡ bodies_of ls qs ++ bodies_of ls rs
-          → cond b (masks_of ls q.positive ∷ bodies_of ls (qs ++ rs)) (bodies_of ls (qs ++ rs))
-          ≡ cond b (masks_of ls q.positive ∷ bodies_of ls qs) (bodies_of ls qs) ++ bodies_of ls rs
-      go true e = ap (λ (ms : List ℕ). masks_of ls q.positive ∷ ms) e
+      c : Clause
+      c = record { body = masks_of ls q.positive; head = masks_of ls q.head }
+
+      go : (b : Bool) → clauses_of ls (qs ++ rs) ≡ clauses_of ls qs ++ clauses_of ls rs
+          → cond b (c ∷ clauses_of ls (qs ++ rs)) (clauses_of ls (qs ++ rs)) ≡ cond b (c ∷ clauses_of ls qs) (clauses_of ls qs) ++ clauses_of ls rs
+      go true e = ap (λ (cs : List Clause). c ∷ cs) e
       go false e = e
 
-  heads-append : (qs rs : List Remainder) → heads_of ls (qs ++ rs) ≡ heads_of ls qs ++ heads_of ls rs
-  unfolding heads_of
-  heads-append [] rs = refl
-  heads-append (q ∷ qs) rs = go (each_of (set_of ls) q.positive) (heads-append qs rs)
-    where
-      go : (b : Bool) → heads_of ls (qs ++ rs) ≡ heads_of ls qs ++ heads_of ls rs
-          → cond b (masks_of ls q.head ∷ heads_of ls (qs ++ rs)) (heads_of ls (qs ++ rs))
-          ≡ cond b (masks_of ls q.head ∷ heads_of ls qs) (heads_of ls qs) ++ heads_of ls rs
-      go true e = ap (λ (ms : List ℕ). masks_of ls q.head ∷ ms) e
-      go false e = e
+  -- one rule more
+  module _ (gone : Program) (r : Rule) where
+    clauses-next : clauses_of ls (quotient (gone ++ r ∷ []) (set_of ls))
+        ≡ clauses_of ls (quotient gone (set_of ls)) ++ clauses_of ls (with_remainder (remainder r (set_of ls)) [])
+    unfolding quotient
+    clauses-next =
+        ap (clauses_of ls) (quotient-append gone (r ∷ []) (set_of ls)) ∙ clauses-append (quotient gone (set_of ls)) (quotient (r ∷ []) (set_of ls))
 
-  -- one rule more, by what its clause tells
-  module _ (gone : Program) (r : Rule) (c : Clause) (t : Told ls (remainder r (set_of ls)) c) where
     -- where none before it is broken
     module _ (before : broken_from 1 gone (set_of ls) ≡ none) where
-      pub next-holds : is_broken c ≡ false → broken_from 1 (gone ++ r ∷ []) (set_of ls) ≡ none
+      pub next-holds : satisfied (remainder r (set_of ls)) (set_of ls) ≡ true → broken_from 1 (gone ++ r ∷ []) (set_of ls) ≡ none
       unfolding broken_from
-      next-holds e = broken-append (set_of ls) 1 gone (r ∷ []) before ∙ rw (told-holds ls (remainder r (set_of ls)) c t e)
+      next-holds e = broken-append (set_of ls) 1 gone (r ∷ []) before ∙ rw e
 
-      pub next-broken : is_broken c ≡ true → (behind : Program) → broken_from 1 (gone ++ r ∷ behind) (set_of ls) ≡ some (1 + length gone)
+      pub next-broken : satisfied (remainder r (set_of ls)) (set_of ls) ≡ false → (behind : Program)
+          → broken_from 1 (gone ++ r ∷ behind) (set_of ls) ≡ some (1 + length gone)
       unfolding broken_from
-      next-broken e behind = broken-append (set_of ls) 1 gone (r ∷ behind) before ∙ rw (told-broken ls (remainder r (set_of ls)) c t e)
+      next-broken e behind = broken-append (set_of ls) 1 gone (r ∷ behind) before ∙ rw e
 
-    pub next-bodies : (d : List ℕ) (i : ℕ) → i < length d → take i d ≡ bodies_of ls (quotient gone (set_of ls))
-        → take (i + c.count) (set d i c.body) ≡ bodies_of ls (quotient (gone ++ r ∷ []) (set_of ls))
-    unfolding quotient bodies_of
-    next-bodies d i h e =
-        one t ∙ ap (λ (ms : List ℕ). ms ++ bodies_of ls (quotient (r ∷ []) (set_of ls))) e
-        ∙ sym (ap (bodies_of ls) (quotient-append gone (r ∷ []) (set_of ls)) ∙ bodies-append (quotient gone (set_of ls)) (quotient (r ∷ []) (set_of ls)))
-      where
-        one : Told ls (remainder r (set_of ls)) c → take (i + c.count) (set d i c.body) ≡ take i d ++ bodies_of ls (with_remainder (remainder r (set_of ls)) [])
-        one (without w) = rw (w.none, w.no_body []) (store-uncounted d i c.body)
-        one (with-one w) = rw (w.one, w.a_body []) (store-counted d i c.body h)
+    -- the first i clauses of a slice are those before it: it has none, or its clause is stored behind them
+    module _ (d : List Clause) (i : ℕ) (e : take i d ≡ clauses_of ls (quotient gone (set_of ls))) where
+      pub next-without : Without ls (remainder r (set_of ls)) → take i d ≡ clauses_of ls (quotient (gone ++ r ∷ []) (set_of ls))
+      unfolding clauses_of
+      next-without w =
+          e ∙ sym (clauses-next ∙ ap (λ (cs : List Clause). clauses_of ls (quotient gone (set_of ls)) ++ cs) (w.none-more [])
+          ∙ append-nil (clauses_of ls (quotient gone (set_of ls))))
 
-    pub next-heads : (d : List ℕ) (i : ℕ) → i < length d → take i d ≡ heads_of ls (quotient gone (set_of ls))
-        → take (i + c.count) (set d i c.head) ≡ heads_of ls (quotient (gone ++ r ∷ []) (set_of ls))
-    unfolding quotient heads_of
-    next-heads d i h e =
-        one t ∙ ap (λ (ms : List ℕ). ms ++ heads_of ls (quotient (r ∷ []) (set_of ls))) e
-        ∙ sym (ap (heads_of ls) (quotient-append gone (r ∷ []) (set_of ls)) ∙ heads-append (quotient gone (set_of ls)) (quotient (r ∷ []) (set_of ls)))
-      where
-        one : Told ls (remainder r (set_of ls)) c → take (i + c.count) (set d i c.head) ≡ take i d ++ heads_of ls (with_remainder (remainder r (set_of ls)) [])
-        one (without w) = rw (w.none, w.no-head []) (store-uncounted d i c.head)
-        one (with-one w) = rw (w.one, w.a-head []) (store-counted d i c.head h)
+      pub next-with : (c : Clause) → With ls (remainder r (set_of ls)) c → i < length d
+          → take (i + 1) (set d i c) ≡ clauses_of ls (quotient (gone ++ r ∷ []) (set_of ls))
+      unfolding clauses_of
+      next-with c w h =
+          ap (λ (k : ℕ). take k (set d i c)) (add-one i) ∙ take-suc-set d i c h ∙ ap (λ (cs : List Clause). cs ++ c ∷ []) e
+          ∙ sym (clauses-next ∙ ap (λ (cs : List Clause). clauses_of ls (quotient gone (set_of ls)) ++ cs) (w.one-more []))

@@ -1,9 +1,9 @@
 -- Laws of keys in a slice and unions of their positions, one by one.
 -- In order: the first key, and none; a union with one more; of keys in a slice; whether the set has each.
 -- Assumes nothing.
-use Prim.Native.Nat.{ℕ, zero, suc, ◌+◌, ◌-◌, ◌≤◌, ◌<◌}
+use Prim.Native.Nat.{ℕ, zero, suc, ◌+◌, ◌*◌, ◌-◌, ◌≤◌, ◌<◌}
 use native.Mathlib.Omega.{arith}
-use mathlib.Core.Path.{◌≡◌, refl, sym, ◌∙◌, ap}
+use mathlib.Core.Path.{◌≡◌, refl, sym, ◌∙◌, ap, ap₂}
 use mathlib.Core.Bool.{Bool, true, false, ◌&&◌}
 use mathlib.Core.List.{List, [], ◌∷◌, ◌++◌}
 use lib.Bits.{bit_or, or_zero_l, or_zero_r}
@@ -12,6 +12,7 @@ use Rattle.literal.specs.Code.{key_at}
 use Rattle.semantics.specs.Set.{each_of}
 use Rattle.mask.proofs.Laws.Part.{or_assoc}
 use Rattle.set.specs.Code.{has_key}
+use Rattle.std.specs.Prelude.{Some, None}
 use Rattle.check_clauses.specs.Code.{key_mask, keys_at, union, positions_of}
 
 module _ (t : List ℕ) where
@@ -73,10 +74,24 @@ module _ (s : List ℕ) (n : ℕ) (t : List ℕ) where
   all_end at m h = ap (each_of (has_key s n)) (keys_none t at m h)
 
 module _ (s : List ℕ) (n : ℕ) (ks : List ℕ) where
-  pub positions-missing : each_of (has_key s n) ks ≡ false → positions_of s n ks ≡ record { whole = false; mask = 0 }
+  pub positions-missing : each_of (has_key s n) ks ≡ false → positions_of s n ks ≡ None
   unfolding positions_of
   positions-missing e = rw e
 
-  pub positions-whole : each_of (has_key s n) ks ≡ true → positions_of s n ks ≡ record { whole = true; mask = union (key_mask s n) ks }
+  pub positions-whole : each_of (has_key s n) ks ≡ true → positions_of s n ks ≡ Some (union (key_mask s n) ks)
   unfolding positions_of
   positions-whole e = rw e
+
+-- literal number i of m, from 0, in a slice
+module _ (s : List ℕ) (n : ℕ) (t : List ℕ) (m i from : ℕ) (l : i < m) where
+  behind : keys_at t (from + 5 * i + 5) (m - i - 1) ≡ keys_at t (from + 5 * (i + 1)) (m - (i + 1))
+  behind = ap₂ (keys_at t) (omega arith) (omega arith)
+
+  pub positions-step : (so one : ℕ) → one ≡ key_mask s n (key_at (drop (from + 5 * i) t))
+      → bit_or so (union (key_mask s n) (keys_at t (from + 5 * i) (m - i))) ≡ bit_or (bit_or so one) (union (key_mask s n) (keys_at t (from + 5 * (i + 1)) (m - (i + 1))))
+  positions-step so one e =
+      positions-next s n t (from + 5 * i) (m - i) so one (omega arith) e ∙ ap (λ (ks : List ℕ). bit_or (bit_or so one) (union (key_mask s n) ks)) behind
+
+  pub all-step : has_key s n (key_at (drop (from + 5 * i) t)) ≡ true
+      → each_of (has_key s n) (keys_at t (from + 5 * i) (m - i)) ≡ each_of (has_key s n) (keys_at t (from + 5 * (i + 1)) (m - (i + 1)))
+  all-step e = all-next s n t (from + 5 * i) (m - i) (omega arith) e ∙ ap (each_of (has_key s n)) behind

@@ -18,7 +18,7 @@ use Rattle.semantics.specs.Rule.{Remainder}
 use Rattle.semantics.proofs.Laws.Tests.{both, left, right, either, refuted, is_true, is_false}
 use Rattle.semantics.proofs.Laws.Set.{mem-set-of}
 use Rattle.mask.specs.Code.{has}
-use Rattle.check_force.specs.Code.{mask_of, masks_of, bodies_of, heads_of}
+use Rattle.check_force.specs.Code.{mask_of, masks_of, clauses_of}
 
 -- no literal stands twice in the list
 unfoldable pub distinct : List Literal → Bool
@@ -59,21 +59,14 @@ mask-none (m ∷ ls) l n =
 
 -- the clauses of one rule more
 module _ (ls : List Literal) (q : Remainder) (qs : List Remainder) where
-  pub bodies_kept : T (each_of (set_of ls) q.positive) → bodies_of ls (q ∷ qs) ≡ masks_of ls q.positive ∷ bodies_of ls qs
-  unfolding bodies_of
-  bodies_kept t = rw (is_true (each_of (set_of ls) q.positive) t)
+  pub clauses_kept : T (each_of (set_of ls) q.positive)
+      → clauses_of ls (q ∷ qs) ≡ record { body = masks_of ls q.positive; head = masks_of ls q.head } ∷ clauses_of ls qs
+  unfolding clauses_of
+  clauses_kept t = rw (is_true (each_of (set_of ls) q.positive) t)
 
-  pub heads-kept : T (each_of (set_of ls) q.positive) → heads_of ls (q ∷ qs) ≡ masks_of ls q.head ∷ heads_of ls qs
-  unfolding heads_of
-  heads-kept t = rw (is_true (each_of (set_of ls) q.positive) t)
-
-  pub bodies-left-out : (T (each_of (set_of ls) q.positive) → ⊥) → bodies_of ls (q ∷ qs) ≡ bodies_of ls qs
-  unfolding bodies_of
-  bodies-left-out n = rw (is_false (each_of (set_of ls) q.positive) n)
-
-  pub heads-left-out : (T (each_of (set_of ls) q.positive) → ⊥) → heads_of ls (q ∷ qs) ≡ heads_of ls qs
-  unfolding heads_of
-  heads-left-out n = rw (is_false (each_of (set_of ls) q.positive) n)
+  pub clauses-left-out : (T (each_of (set_of ls) q.positive) → ⊥) → clauses_of ls (q ∷ qs) ≡ clauses_of ls qs
+  unfolding clauses_of
+  clauses-left-out n = rw (is_false (each_of (set_of ls) q.positive) n)
 
 -- what a mask picks of a list with one literal more
 module _ (x : ℕ) (l : Literal) (ls : List Literal) where

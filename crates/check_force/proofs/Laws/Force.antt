@@ -2,8 +2,7 @@
 -- last open head literal; the last open body literal; one literal is open in body and head alike.
 -- Assumes nothing.
 use Prim.Native.Nat.{ℕ, ◌-◌}
-use mathlib.Core.Path.{◌≡◌, refl, sym, ap, ap₂, subst, ◌∙◌}
-use mathlib.Core.Bool.{true, false}
+use mathlib.Core.Path.{◌≡◌, sym, ap, ap₂, subst, ◌∙◌}
 use mathlib.Core.Logic.{⊎_elim}
 use lib.Bits.{bit_and, bit_or, bit_xor, or_zero_r}
 use Rattle.mask.specs.Code.{Within, Apart, Single}
@@ -11,8 +10,8 @@ use Rattle.mask.proofs.Laws.Rest.{rest, rest-none, none_rest, rest-within, rest-
 use Rattle.mask.proofs.Laws.Part.{within-refl, within-trans, within-or-left, within-or-right, or-within, and-within-left, and-within-right, apart-sym, within-apart, xor-within, xor-apart, within-xor, or-none, apart-or-not}
 use Rattle.mask.proofs.Laws.Single.{apart-single}
 use Rattle.check_force.specs.declared.Bounds.{Bounds}
-use Rattle.check_force.specs.Code.{Holds, Between, Quiet, Narrowed}
-use Rattle.check_force.proofs.Laws.Narrow.{true-not-false, unchanged}
+use Rattle.check_force.specs.Code.{Holds, Between, Quiet, Dead, Narrowed}
+use Rattle.check_force.proofs.Laws.Narrow.{unchanged}
 use Rattle.check_force.proofs.Laws.Unforced.{nothing, both-open, met-or-two}
 
 module _ (body head must may : ℕ) where
@@ -34,7 +33,7 @@ module _ (body head must may : ℕ) where
   -- the one test: the body may not be present, or a head literal is, or w, what is open besides the lowest open literal, is some
   module _ {w : ℕ} (b : w ≡ bit_and (bit_or needed left) (bit_or needed left - 1)) where
     pub met-or-more : (bit_or (bit_or (rest body may) (bit_and head must)) w ≡ 0 → ⊥)
-        → Forced (record { live = true; must = must; may = may })
+        → Forced (record { must = must; may = may })
     met-or-more n = unchanged none (λ i. met-or-two body head must may i w b n)
       where
         none : must ≡ may → Holds body head must
@@ -53,24 +52,23 @@ module _ (body head must may : ℕ) where
     last-holds e w a = n (ap₂ bit_or (none_rest body must w) (subst (Apart head) e a))
 
     -- one literal is open in body and head alike: the clause holds with it and without it
-    pub same-open : (needed ≡ 0 → ⊥) → (left ≡ 0 → ⊥) → Forced (record { live = true; must = must; may = may })
+    pub same-open : (needed ≡ 0 → ⊥) → (left ≡ 0 → ⊥) → Forced (record { must = must; may = may })
     same-open f g = unchanged last-holds (λ i. both-open body head must may i f g)
 
     -- one head literal is open and the body present: the literal must be
     pub last-head : bit_or (rest body may) (bit_and head must) ≡ 0 → Single (bit_or needed left) → needed ≡ 0
-        → Forced (record { live = true; must = bit_or must (bit_or needed left); may = may })
+        → Forced (record { must = bit_or must (bit_or needed left); may = may })
     last-head k s e =
-        subst (λ (z : ℕ). Forced (record { live = true; must = bit_or must (bit_or z left); may = may })) (sym e)
+        subst (λ (z : ℕ). Forced (record { must = bit_or must (bit_or z left); may = may })) (sym e)
         record {
           kept = record {
             more = within-or-left must left;
             less = within-refl may;
             inside = λ w. or-within must left may w (and-within-right head may);
             keeps = forced;
-            dead = λ d. absurd (true-not-false refl d);
           };
-          leaf = λ c p q o. last-holds o;
-          quiet = λ c p q i. absurd (changed p);
+          leaf = λ p q o. last-holds o;
+          quiet = λ p q i. absurd (changed p);
         }
       where
         -- what is left is none of what must be
@@ -91,19 +89,18 @@ module _ (body head must may : ℕ) where
 
     -- one body literal is open and no head literal is left: the body literal may not be
     pub last-body : bit_or (rest body may) (bit_and head must) ≡ 0 → Single (bit_or needed left) → left ≡ 0
-        → Forced (record { live = true; must = must; may = bit_xor may (bit_or needed left) })
+        → Forced (record { must = must; may = bit_xor may (bit_or needed left) })
     last-body k s e =
-        subst (λ (z : ℕ). Forced (record { live = true; must = must; may = bit_xor may z })) (sym same)
+        subst (λ (z : ℕ). Forced (record { must = must; may = bit_xor may z })) (sym same)
         record {
           kept = record {
             more = within-refl must;
             less = xor-within may needed within;
             inside = λ w. within-xor must may needed within w (rest-apart body must);
             keeps = forced;
-            dead = λ d. absurd (true-not-false refl d);
           };
-          leaf = λ c p q o. last-holds o;
-          quiet = λ c p q i. absurd (changed q);
+          leaf = λ p q o. last-holds o;
+          quiet = λ p q i. absurd (changed q);
         }
       where
         within : Within needed may
@@ -129,15 +126,7 @@ module _ (body head must may : ℕ) where
             }
 
   -- nothing is open: the clause fails in each mask between the bounds
-  pub nothing-open : bit_or needed left ≡ 0 → Forced (record { live = false; must = must; may = may })
-  nothing-open e =
-      record {
-        kept = record { more = within-refl must; less = within-refl may; inside = λ w. w; keeps = λ x b h. b; dead = none };
-        leaf = λ c. absurd (true-not-false c refl);
-        quiet = λ c. absurd (true-not-false c refl);
-      }
-    where
-      none : false ≡ false → (x : ℕ) → Between must may x → Holds body head x → ⊥
-      none d x b =
-          let p = or-none needed left e in
-          fails x b (ap (λ (z : ℕ). bit_and z x) p.0 ∙ sym p.0) (ap (λ (z : ℕ). bit_and z x) p.1)
+  pub nothing-open : bit_or needed left ≡ 0 → Dead (Holds body head) must may
+  nothing-open e x b =
+      let p = or-none needed left e in
+      fails x b (ap (λ (z : ℕ). bit_and z x) p.0 ∙ sym p.0) (ap (λ (z : ℕ). bit_and z x) p.1)

@@ -1,58 +1,54 @@
 -- A sweep over the clauses narrows two bounds by nothing but the model: at its start, a clause further, and cut short.
 -- Assumes nothing.
-use Prim.Native.Nat.{ℕ, ◌+◌, ◌≤◌, ◌<◌}
-use native.Mathlib.Nat.{eq-or-lt_of_le}
-use native.Mathlib.Omega.{arith}
-use mathlib.Core.Path.{◌≡◌, sym, subst}
-use mathlib.Core.Bool.{true, false}
-use mathlib.Core.List.{List}
-use mathlib.Core.Logic.{◌⊎◌, inl, inr}
-use lib.ListN.{get_or}
+use Rattle.std.proofs.Common.{ℕ, ◌+◌, ◌<◌, ◌≤◌, subst, List, get_or, take, length, All, arith, length-take}
+use Rattle.std.proofs.lemmas.List.{take_all, take-take, get_or-take}
+use Rattle.std.proofs.lemmas.List.Elements.{All-nil, All-more, All-take, All-get_or}
 use Rattle.check_force.specs.declared.Bounds.{Bounds}
-use Rattle.check_force.specs.Code.{Holds, Model, Settled, Quiet, Narrowed}
-use Rattle.check_force.proofs.Laws.Narrow.{true-not-false, kept-as, then, same-property}
+use Rattle.check_force.specs.declared.Clause.{Clause}
+use Rattle.check_force.specs.Code.{Holds, Model, Settled, Quiet, Dead, Narrowed}
+use Rattle.check_force.proofs.Laws.Narrow.{dead_then, then, same-property}
 
-module _ (whole : ℕ) (bodies heads : List ℕ) where
-  -- a model of more clauses is one of fewer
-  fewer : (n i x : ℕ) → i ≤ n → Model whole bodies heads n x → Model whole bodies heads i x
-  fewer n i x h m = record { proper = m.proper; clauses = λ k l. m.clauses k (omega arith) }
-
-  -- and a model in which the next clause holds is one of one clause more
-  next : (i x : ℕ) → Model whole bodies heads i x → Holds (get_or bodies i 0) (get_or heads i 0) x → Model whole bodies heads (i + 1) x
-  next i x m h = record { proper = m.proper; clauses = λ k l. go k (eq-or-lt_of_le {n = k} {m = i} (omega arith)) }
-    where
-      go : (k : ℕ) → (k ≡ i) ⊎ (k < i) → Holds (get_or bodies k 0) (get_or heads k 0) x
-      go k (inl e) = subst (λ (j : ℕ). Holds (get_or bodies j 0) (get_or heads j 0) x) (sym e) h
-      go k (inr l) = m.clauses k l
-
-  -- where the next clause forces nothing either, one clause more is settled
-  settle : (i must may : ℕ) → Settled whole bodies heads i must may → Quiet (Holds (get_or bodies i 0) (get_or heads i 0)) must may
-      → Settled whole bodies heads (i + 1) must may
-  settle i must may s q = record { proper = s.proper; clauses = λ k l. go k (eq-or-lt_of_le {n = k} {m = i} (omega arith)) }
-    where
-      go : (k : ℕ) → (k ≡ i) ⊎ (k < i) → Quiet (Holds (get_or bodies k 0) (get_or heads k 0)) must may
-      go k (inl e) = subst (λ (j : ℕ). Quiet (Holds (get_or bodies j 0) (get_or heads j 0)) must may) (sym e) q
-      go k (inr l) = s.clauses k l
-
-  -- i clauses have narrowed the bounds
+module _ (whole : ℕ) (cs : List Clause) where
+  -- the first i clauses have narrowed the bounds
   abbrev pub Swept : ℕ → ℕ → ℕ → Bounds → Type 0
-  Swept i = Narrowed (Model whole bodies heads i) (Settled whole bodies heads i)
+  Swept i = Narrowed (Model whole (take i cs)) (Settled whole (take i cs))
 
-  module _ {must may : ℕ} {r : Bounds} where
-    pub pass-start : Narrowed (Holds whole 0) (Quiet (Holds whole 0)) must may r → Swept 0 must may r
+  abbrev HoldsIn : ℕ → Clause → Type 0
+  HoldsIn x c = Holds c.body c.head x
+
+  abbrev QuietOn : ℕ → ℕ → Clause → Type 0
+  QuietOn must may c = Quiet (Holds c.body c.head) must may
+
+  -- a model of all clauses is one of the first
+  fewer : (i x : ℕ) → Model whole cs x → Model whole (take i cs) x
+  fewer i x m = record { proper = m.proper; each = All-take (HoldsIn x) i cs m.each }
+
+  module _ {must may : ℕ} where
+    pub pass-start : {r : Bounds} → Narrowed (Holds whole 0) (Quiet (Holds whole 0)) must may r → Swept 0 must may r
     pass-start =
-        same-property (λ x m. m.proper) (λ x h. record { proper = h; clauses = λ k l. absurd (omega arith) })
-        (λ q. record { proper = q; clauses = λ k l. absurd (omega arith) })
+        same-property (λ x m. m.proper) (λ x h. record { proper = h; each = All-nil (HoldsIn x) })
+        (λ q. record { proper = q; each = All-nil (QuietOn must may) })
 
-    pub pass_step : (i : ℕ) {s : Bounds} → s.live ≡ true → Swept i must may s
-        → Narrowed (Holds (get_or bodies i 0) (get_or heads i 0)) (Quiet (Holds (get_or bodies i 0) (get_or heads i 0))) s.must s.may r → Swept (i + 1) must may r
-    pass_step i a v w =
-        then a v w (λ x m. fewer (i + 1) i x (omega arith) m) (λ x m. m.clauses i (omega arith)) (λ x m h. next i x m h) (settle i must may)
+    module _ (i : ℕ) (d : Clause) (l : i < length cs) {s : Bounds} (v : Swept i must may s) where
+      abbrev c : Clause
+      c = get_or cs i d
 
-    -- where no mask is left between the bounds, the clauses that are left change nothing
-    pub pass-dead : (n i : ℕ) → i ≤ n → r.live ≡ false → Swept i must may r → Swept n must may r
-    pass-dead n i h l v =
-        record { kept = kept-as (λ x m. fewer n i x h m) v.kept; leaf = λ a. absurd (true-not-false a l); quiet = λ a. absurd (true-not-false a l) }
+      one : (P : Clause → Type 0) → All P (take (i + 1) cs) → All P (take i cs) × P c
+      one P a = (
+        subst (All P) (take-take i (i + 1) cs (omega arith)) (All-take P i (take (i + 1) cs) a),
+        subst P (get_or-take (i + 1) cs i d (omega arith)) (All-get_or P (take (i + 1) cs) i d (omega (arith, length-take (i + 1) cs)) a),
+      )
 
-    pub pass-end : (n i : ℕ) → i ≤ n → n ≤ i → Swept i must may r → Swept n must may r
-    pass-end n i h k v = subst (λ (j : ℕ). Swept j must may r) (omega arith) v
+      pub pass_step : {r : Bounds} → Narrowed (Holds c.body c.head) (Quiet (Holds c.body c.head)) s.must s.may r → Swept (i + 1) must may r
+      pass_step w =
+          then v w (λ x m. record { proper = m.proper; each = (one (HoldsIn x) m.each).0 }) (λ x m. (one (HoldsIn x) m.each).1)
+          (λ x m h. record { proper = m.proper; each = All-more (HoldsIn x) cs i d l m.each h })
+          (λ t q. record { proper = t.proper; each = All-more (QuietOn must may) cs i d l t.each q })
+
+      -- where no mask is left between the bounds, the clauses that are left change nothing
+      pub pass-dead : Dead (Holds c.body c.head) s.must s.may → Dead (Model whole cs) must may
+      pass-dead n =
+          dead_then v.kept n (λ x m. fewer i x m) (λ x m. (one (HoldsIn x) (fewer (i + 1) x m).each).1)
+
+    pub pass-end : (i : ℕ) {r : Bounds} → length cs ≤ i → Swept i must may r → Narrowed (Model whole cs) (Settled whole cs) must may r
+    pass-end i {r} h v = subst (λ (ds : List Clause). Narrowed (Model whole ds) (Settled whole ds) must may r) (take_all i cs h) v

@@ -1,18 +1,15 @@
 -- A mask between two bounds with a property, any and the first: after propagation; where one mask is left; and by an open
 -- position, absent before present, the highest where the first is sought.
 -- Assumes nothing.
-use Prim.Native.Nat.{ℕ}
-use mathlib.Core.Path.{◌≡◌, refl, subst}
-use mathlib.Core.Bool.{true, false}
+use Rattle.std.specs.Prelude.{ℕ, Option, Some, None}
+use mathlib.Core.Path.{◌≡◌, subst}
 use mathlib.Core.Logic.{◌⊎◌, inl, inr, ⊎_elim}
 use lib.Bits.{bit_or, bit_xor}
 use Rattle.mask.specs.Code.{Within, Position, Highest}
 use Rattle.mask.proofs.Laws.Part.{within-refl, within-trans, within-le, within-or-left, xor-within}
 use Rattle.check_force.specs.declared.Bounds.{Bounds}
-use Rattle.check_force.specs.Code.{Propagated}
-use Rattle.check_force.proofs.Laws.Narrow.{true-not-false}
-use Rattle.check_search.specs.declared.Found.{Found}
-use Rattle.check_search.specs.Code.{Candidate, Any, First}
+use Rattle.check_force.specs.Code.{Kept}
+use Rattle.check_search.specs.Code.{Never, Any, Least, Candidate}
 use Rattle.check_search.proofs.Laws.Open.{open-within, absent-before, absent-or-present}
 
 -- narrower bounds
@@ -23,42 +20,22 @@ wider P must may m y p q x d =
       has = d.has;
     }
 
-module _ {P : ℕ → Type 0} {Q : ℕ → ℕ → Type 0} {must may : ℕ} {s : Bounds} (v : Propagated P Q must may s) where
-  -- nothing is left
-  pub any-dead : s.live ≡ false → Any (Candidate P must may) (record { found = false; model = 0 })
-  any-dead n =
-      record {
-        passes = λ e. absurd (true-not-false e refl);
-        none = λ e x d. v.kept.dead n x d.between d.has;
-      }
-
-  -- what is found between the bounds that are left is between the bounds
-  pub any_left : {r : Found} → Any (Candidate P s.must s.may) r → Any (Candidate P must may) r
-  any_left {r} f =
-      record {
-        passes = λ e. wider P must may s.must s.may v.kept.more v.kept.less r.model (f.passes e);
-        none = λ e x d. f.none e x (record { between = v.kept.keeps x d.between d.has; has = d.has });
-      }
+-- what is found between the bounds that are left is between the bounds
+pub any_left : {P : ℕ → Type 0} {must may : ℕ} {s : Bounds} → Kept P must may s → (r : Option ℕ) → Any (Candidate P s.must s.may) r
+    → Any (Candidate P must may) r
+any_left v None n = λ x d. n x (record { between = v.keeps x d.between d.has; has = d.has })
+any_left {P} {must} {may} {s} v (Some m) d = wider P must may s.must s.may v.more v.less m d
 
 -- one mask is left
-pub first_leaf : {P : ℕ → Type 0} {must may : ℕ} → must ≡ may → P must → First (Candidate P must may) (record { found = true; model = must })
-first_leaf {must} o p =
-    record {
-      passes = λ e. record { between = record { above = within-refl must; below = subst (Within must) o (within-refl must) }; has = p };
-      least = λ e x d. within-le must x d.between.above;
-      none = λ e. absurd (true-not-false refl e);
-    }
+pub leaf : {P : ℕ → Type 0} {must may : ℕ} → must ≡ may → P must → Candidate P must may must
+leaf {must} o p = record { between = record { above = within-refl must; below = subst (Within must) o (within-refl must) }; has = p }
 
-pub first_any : {P : ℕ → Type 0} {r : Found} → First P r → Any P r
-first_any f = record { passes = f.passes; none = f.none }
-
--- there is none
-pub first-none : {P : ℕ → Type 0} {r : Found} → r.found ≡ false → Any P r → First P r
-first-none n f = record { passes = λ e. absurd (true-not-false e n); least = λ e. absurd (true-not-false e n); none = f.none }
+pub least_leaf : {P : ℕ → Type 0} {must may : ℕ} → must ≡ may → P must → Least (Candidate P must may) must
+least_leaf {must} o p = record { passes = leaf o p; least = λ x d. within-le must x d.between.above }
 
 -- by an open position
 module _ {P : ℕ → Type 0} {must may b : ℕ} (w : Within must may) (h : Position (bit_xor may must) b) where
-  absent-wider : (x : ℕ) → Candidate P must (bit_xor may b) x → Candidate P must may x
+  pub absent-wider : (x : ℕ) → Candidate P must (bit_xor may b) x → Candidate P must may x
   absent-wider = wider P must may must (bit_xor may b) (within-refl must) (xor-within may b (open-within must may b w h))
 
   present-wider : (x : ℕ) → Candidate P (bit_or must b) may x → Candidate P must may x
@@ -69,40 +46,26 @@ module _ {P : ℕ → Type 0} {must may b : ℕ} (w : Within must may) (h : Posi
       ⊎_elim (λ p. inl (record { between = p; has = d.has })) (λ p. inr (record { between = p; has = d.has }))
       (absent-or-present must may b w h x d.between)
 
-  -- one without it is found
-  pub any-absent : {r : Found} → r.found ≡ true → Any (Candidate P must (bit_xor may b)) r → Any (Candidate P must may) r
-  any-absent {r} t f = record { passes = λ e. absent-wider r.model (f.passes e); none = λ e. absurd (true-not-false t e) }
-
-  -- there is none without it: what is found with it counts
-  pub any-present : {a r : Found} → a.found ≡ false → Any (Candidate P must (bit_xor may b)) a → Any (Candidate P (bit_or must b) may) r
-      → Any (Candidate P must may) r
-  any-present {a} {r} t g f =
-      record {
-        passes = λ e. present-wider r.model (f.passes e);
-        none = λ e x d. ⊎_elim (g.none t x) (f.none e x) (side x d);
-      }
-
   -- there is none without it: one at hand has it
-  pub present-at-hand : {a : Found} {x : ℕ} → a.found ≡ false → Any (Candidate P must (bit_xor may b)) a → Candidate P must may x
-      → Candidate P (bit_or must b) may x
-  present-at-hand {x = x} t g d = ⊎_elim (λ p. absurd (g.none t x p)) (λ p. p) (side x d)
+  pub present-at-hand : {x : ℕ} → Never (Candidate P must (bit_xor may b)) → Candidate P must may x → Candidate P (bit_or must b) may x
+  present-at-hand {x} n d = ⊎_elim (λ p. absurd (n x p)) (λ p. p) (side x d)
 
   -- there is none without it: the first with it is the first
-  pub first-present : {a r : Found} → a.found ≡ false → Any (Candidate P must (bit_xor may b)) a
-      → First (Candidate P (bit_or must b) may) r → First (Candidate P must may) r
-  first-present {a} {r} t g f =
-      record {
-        passes = λ e. present-wider r.model (f.passes e);
-        least = λ e x d. ⊎_elim (λ p. absurd (g.none t x p)) (f.least e x) (side x d);
-        none = λ e x d. ⊎_elim (g.none t x) (f.none e x) (side x d);
-      }
+  pub least-present : {m : ℕ} → Never (Candidate P must (bit_xor may b)) → Least (Candidate P (bit_or must b) may) m → Least (Candidate P must may) m
+  least-present {m} n f =
+      record { passes = present-wider m f.passes; least = λ x d. ⊎_elim (λ p. absurd (n x p)) (f.least x) (side x d) }
 
--- by the highest open position: there is one without it, and the first of these is the first
-pub first_absent : {P : ℕ → Type 0} {must may b x : ℕ} {r : Found} → Within must may → Highest (bit_xor may must) b
-    → Candidate P must (bit_xor may b) x → First (Candidate P must (bit_xor may b)) r → First (Candidate P must may) r
-first_absent {P} {must} {may} {b} {x} {r} w h d f =
+-- by the highest open position: the first of those without it is the first
+pub least_absent : {P : ℕ → Type 0} {must may b m : ℕ} → Within must may → Highest (bit_xor may must) b
+    → Least (Candidate P must (bit_xor may b)) m → Least (Candidate P must may) m
+least_absent {P} {must} {may} {b} {m} w h f =
     record {
-      passes = λ e. absent-wider w h.position r.model (f.passes e);
-      least = λ e z c. ⊎_elim (f.least e z) (λ p. absent-before must may b w h r.model z (f.passes e).between p.between) (side w h.position z c);
-      none = λ e. absurd (f.none e x d);
+      passes = absent-wider w h.position m f.passes;
+      least = λ z c. ⊎_elim (f.least z) (λ p. absent-before must may b w h m z f.passes.between p.between) (side w h.position z c);
     }
+
+-- there is none without an open position: what is found with it counts
+pub any-present : (P : ℕ → Type 0) (must may b : ℕ) → Within must may → Position (bit_xor may must) b → Never (Candidate P must (bit_xor may b))
+    → (r : Option ℕ) → Any (Candidate P (bit_or must b) may) r → Any (Candidate P must may) r
+any-present P must may b w h n None f = λ x d. ⊎_elim (n x) (f x) (side w h x d)
+any-present P must may b w h n (Some m) f = present-wider w h m f

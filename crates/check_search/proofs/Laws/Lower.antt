@@ -4,24 +4,22 @@
 -- Assumes nothing.
 use Prim.Native.Nat.{ℕ}
 use mathlib.Core.Path.{◌≡◌, refl, sym, subst}
-use mathlib.Core.Bool.{false, true}
 use lib.Bits.{bit_and, bit_or, bit_xor}
 use Rattle.mask.specs.Code.{Within, Highest}
 use Rattle.mask.proofs.Laws.Part.{within-antisym, within-xor, apart-sym}
-use Rattle.check_search.specs.declared.Found.{Found}
-use Rattle.check_search.specs.Code.{Candidate, Any, First}
+use Rattle.check_search.specs.Code.{Never, Least, Candidate}
 use Rattle.check_search.proofs.Laws.Open.{open-within, tries-inside}
-use Rattle.check_search.proofs.Laws.First.{first_leaf, first_absent, first-present, present-at-hand}
+use Rattle.check_search.proofs.Laws.First.{least_leaf, least_absent, least-present, present-at-hand}
 
 -- x is between the bounds and has P, and of the masks that have it the first is between them
 pub record Lowered (P : ℕ → Type 0) (whole must may x : ℕ) : Type 0 where
   pub inside : Within must may
   pub at-hand : Candidate P must may x
-  pub leads : (r : Found) → First (Candidate P must may) r → First (Candidate P 0 whole) r
+  pub leads : (m : ℕ) → Least (Candidate P must may) m → Least (Candidate P 0 whole) m
 
 module _ {P : ℕ → Type 0} where
   pub lowered-start : {whole x : ℕ} → Candidate P 0 whole x → Lowered P whole 0 whole x
-  lowered-start d = record { inside = refl; at-hand = d; leads = λ r f. f }
+  lowered-start d = record { inside = refl; at-hand = d; leads = λ m f. f }
 
   module _ {whole must may x b : ℕ} (h : Highest (bit_xor may must) b) (v : Lowered P whole must may x) where
     -- the mask at hand does without the position
@@ -40,19 +38,19 @@ module _ {P : ℕ → Type 0} where
         record {
           inside = (tries-inside must may b v.inside h.position).0;
           at-hand = d;
-          leads = λ r f. v.leads r (first_absent v.inside h d f);
+          leads = λ m f. v.leads m (least_absent v.inside h f);
         }
 
-    pub lowered-present : {a : Found} → a.found ≡ false → Any (Candidate P must (bit_xor may b)) a → Lowered P whole (bit_or must b) may x
-    lowered-present e g =
+    pub lowered-present : Never (Candidate P must (bit_xor may b)) → Lowered P whole (bit_or must b) may x
+    lowered-present n =
         record {
           inside = (tries-inside must may b v.inside h.position).1;
-          at-hand = present-at-hand v.inside h.position e g v.at-hand;
-          leads = λ r f. v.leads r (first-present v.inside h.position e g f);
+          at-hand = present-at-hand v.inside h.position n v.at-hand;
+          leads = λ m f. v.leads m (least-present v.inside h.position n f);
         }
 
-  pub lowered-end : {whole must may x : ℕ} → must ≡ may → Lowered P whole must may x → First (Candidate P 0 whole) (record { found = true; model = must })
-  lowered-end {whole} {must} {may} {x} e v = v.leads (record { found = true; model = must }) (first_leaf e (subst P same v.at-hand.has))
+  pub lowered-end : {whole must may x : ℕ} → must ≡ may → Lowered P whole must may x → Least (Candidate P 0 whole) must
+  lowered-end {whole} {must} {may} {x} e v = v.leads must (least_leaf e (subst P same v.at-hand.has))
     where
       same : x ≡ must
       same = within-antisym x must (subst (Within x) (sym e) v.at-hand.between.below) v.at-hand.between.above

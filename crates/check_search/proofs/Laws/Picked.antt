@@ -7,7 +7,7 @@ use native.Mathlib.Omega.{arith}
 use mathlib.Core.Path.{◌≡◌, refl, sym, ap, subst, ◌∙◌}
 use mathlib.Core.Bool.{Bool, true, false, cond}
 use mathlib.Core.List.{List, [], ◌∷◌}
-use mathlib.Core.Option.{none, some}
+use Rattle.std.specs.Prelude.{Option, Some, None}
 use lib.Dec.{T}
 use lib.ListN.{length}
 use Rattle.literal.specs.declared.Literal.{Literal}
@@ -17,7 +17,6 @@ use Rattle.semantics.proofs.Laws.Part.{none_first, some_first}
 use Rattle.mask.specs.Code.{has}
 use Rattle.mask.proofs.Laws.Place.{has-add-below, has-add-at, has-beyond, mod-suc}
 use Rattle.check_force.proofs.Laws.Build.{picked}
-use Rattle.check_search.specs.declared.Found.{Found}
 use Rattle.check_search.specs.Code.{First}
 use Rattle.check_search.proofs.Laws.Found.{found_in}
 
@@ -78,20 +77,16 @@ module _ (ls : List Literal) (test : List Literal → Bool) {P : ℕ → Type 0}
   marked v y = all (mark v) (mark-lt v) (subst (λ s. T (test s)) (sym (picked-mark v)) y)
 
   -- the smallest mask picks the first part
-  pub first-picked : (r : Found) → First P r → first_subset ls test ≡ found_in ls r
-  unfolding found_in
-  first-picked r f = go r.found refl
-    where
-      go : (b : Bool) → r.found ≡ b → first_subset ls test ≡ cond b (some (picked r.model ls)) none
-      go true e =
-          some_first test
-          (record {
-            part = picked-part r.model ls;
-            passes = passes r.model (f.passes e);
-            first = λ t v b y. omega (
-              arith,
-              f.least e (mark v) (marked v y),
-              subst (λ (n : ℕ). mark v < n) (mod-eq_of_lt (small r.model (f.passes e))) (before-lt r.model ls v b),
-            );
-          })
-      go false e = none_first ls test (λ s v y. f.none e (mark v) (marked v y))
+  pub first-picked : (r : Option ℕ) → First P r → first_subset ls test ≡ found_in ls r
+  first-picked None n = none_first ls test (λ s v y. n (mark v) (marked v y))
+  first-picked (Some m) f =
+      some_first test
+      (record {
+        part = picked-part m ls;
+        passes = passes m f.passes;
+        first = λ t v b y. omega (
+          arith,
+          f.least (mark v) (marked v y),
+          subst (λ (n : ℕ). mark v < n) (mod-eq_of_lt (small m f.passes)) (before-lt m ls v b),
+        );
+      })

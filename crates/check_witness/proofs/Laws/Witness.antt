@@ -1,7 +1,7 @@
 -- Laws of the part of a set that is written: one literal further; the record; what it is of a set that was read.
 -- In order: one literal; the next; the number of literals behind them; the record of what a mask picks.
 -- Assumes nothing.
-use Prim.Native.Nat.{ℕ, zero, suc, ◌+◌, ◌-◌, ◌/◌, ◌≤◌, ◌<◌}
+use Prim.Native.Nat.{ℕ, zero, suc, ◌+◌, ◌-◌, ◌*◌, ◌/◌, ◌≤◌, ◌<◌}
 use native.Mathlib.Omega.{arith}
 use mathlib.Core.Path.{◌≡◌, refl, sym, ◌∙◌, ap, ap₂}
 use mathlib.Core.Bool.{Bool, true, false, cond}
@@ -94,6 +94,17 @@ picked-left x s at n to d e r h within size done = (
   where
     one : List ℕ
     one = picked_one x (n - 1) (take 5 (drop at s))
+
+-- literal number i of n, from 0
+module _ (x : ℕ) (s : List ℕ) (n i to : ℕ) (d e : List ℕ) (r : ℕ) (l : i < n) (within : to ≤ length d) where
+  pub picked-step : r ≡ length (picked_one x (n - 1 - i) (take 5 (drop (4 + 5 * i) s))) → e ≡ write d to (picked_one x (n - 1 - i) (take 5 (drop (4 + 5 * i) s)))
+      → (write d to (picked_bytes x s (4 + 5 * i) (n - i)) ≡ write e (to + r) (picked_bytes x s (4 + 5 * (i + 1)) (n - (i + 1))))
+      × (length (picked_bytes x s (4 + 5 * i) (n - i)) ≡ r + length (picked_bytes x s (4 + 5 * (i + 1)) (n - (i + 1))))
+  picked-step size done =
+      let place : n - 1 - i ≡ n - i - 1 = omega arith in
+      let next : picked_bytes x s (4 + 5 * i + 5) (n - i - 1) ≡ picked_bytes x s (4 + 5 * (i + 1)) (n - (i + 1)) =
+      ap₂ (picked_bytes x s) (omega arith) (omega arith) in
+      rw (← next) (picked-left x s (4 + 5 * i) (n - i) to d e r (omega arith) within (rw place at size) (rw place at done))
 
 -- the count before the literals that are written makes the record
 module _ (x : ℕ) (s : List ℕ) (n to : ℕ) (long : to ≡ 4 + length (picked_bytes x s 4 n)) where

@@ -1,5 +1,5 @@
 -- Figures stored in a row are a decimal written, if the number has at most five.
--- In order: stores in a row; four figures from one number; how many four or five are; one figure, two, three; four or five, the first
+-- In order: stores in a row; the bytes of four figures in one number; how many four or five are; one figure, two, three; four or five, the first
 -- of five stored always.
 -- Assumes nothing.
 use Prim.Native.Nat.{ℕ, ◌+◌, ◌/◌, ◌%◌, ◌≤◌, ◌<◌}
@@ -9,6 +9,7 @@ use native.Mathlib.Omega.{arith}
 use mathlib.Core.Path.{◌≡◌, refl, sym, ◌∙◌, ap}
 use mathlib.Core.Bool.{Bool, true, false}
 use mathlib.Core.List.{List, [], ◌∷◌}
+use Rattle.std.specs.Int.{w32, to_le_bytes}
 use lib.Dec.{leb}
 use lib.ListN.{length, set}
 use lib.Seq.{take-set-le, drop-set-lt}
@@ -23,23 +24,21 @@ use Rattle.decimal.proofs.Laws.Decimal.{decimal-less, length-less}
 use Rattle.decimal.proofs.Laws.Few.{decimal-two, decimal-three, decimal-four, decimal-five}
 
 module _ (d : List ℕ) (at : ℕ) where
-  -- three stores in a row are one write, and four are
+  -- three stores in a row are one write
   three-sets-write : (a b c : ℕ) → at + 3 ≤ length d → set (set (set d at a) (at + 1) b) (at + 2) c ≡ write d at (a ∷ b ∷ c ∷ [])
   three-sets-write a b c h = simp towards_suc (sets-write d at (a ∷ b ∷ c ∷ []) (omega arith))
-
-  four-sets-write : (a b c e : ℕ) → at + 4 ≤ length d
-      → set (set (set (set d at a) (at + 1) b) (at + 2) c) (at + 3) e ≡ write d at (a ∷ b ∷ c ∷ e ∷ [])
-  four-sets-write a b c e h = simp towards_suc (sets-write d at (a ∷ b ∷ c ∷ e ∷ []) (omega arith))
 
   -- what is stored where something else is written is not seen
   write-over : (v b : ℕ) (bs : List ℕ) → write (set d at v) at (b ∷ bs) ≡ write d at (b ∷ bs)
   unfolding write
   write-over v b bs = rw (take-set-le at d at v (omega arith), drop-set-lt (at + length (b ∷ bs)) d at v (omega arith))
 
-  -- the four bytes of a packed number
-  pub packed-stored : (n r : ℕ) → Packed n r → at + 4 ≤ length d
-      → set (set (set (set d at (r % 256)) (at + 1) (r / 256 % 256)) (at + 2) (r / 65536 % 256)) (at + 3) (r / 16777216) ≡ write d at (four_figures n)
-  packed-stored n r p h = rw (p.first, p.second, p.third, p.fourth) (four-sets-write _ _ _ _ h)
+-- the four bytes of a packed number
+pub packed-bytes : (n r : ℕ) → Packed n r → to_le_bytes w32 r ≡ four_figures n
+packed-bytes n r p = four (omega (arith, p.first)) (omega (arith, p.second)) (omega (arith, p.third)) (omega (arith, p.fourth))
+  where
+    four : {a b c d x y z v : ℕ} → a ≡ x → b ≡ y → c ≡ z → d ≡ v → a ∷ b ∷ c ∷ d ∷ [] ≡ x ∷ y ∷ z ∷ v ∷ []
+    four h i j k = rw (h, i, j, k) refl
 
 -- four figures, or five
 pub more-long : (n : ℕ) → 1000 ≤ n → n < 100000 → length (decimal n) ≡ bool_byte (leb 10000 n) + 4

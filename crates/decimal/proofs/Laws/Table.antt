@@ -1,9 +1,9 @@
 -- A table of the figures of numbers below 1000, filled from its start.
--- In order: the first i entries; none; one more; all.
+-- In order: the first i entries; one more; all.
 -- Assumes nothing.
 use Prim.Native.Nat.{ℕ, ◌+◌, ◌≤◌, ◌<◌}
 use native.Mathlib.Omega.{arith}
-use mathlib.Core.Path.{◌≡◌, refl, ◌∙◌, ap}
+use mathlib.Core.Path.{◌≡◌, refl, ◌∙◌}
 use mathlib.Core.Bool.{Bool, true, false}
 use mathlib.Core.List.{List}
 use lib.Dec.{eqb}
@@ -16,14 +16,11 @@ use Rattle.decimal.specs.Code.{three_figures, Figures}
 pub record Filled (table : List ℕ) (i : ℕ) : Type 0 where
   pub done : (k : ℕ) → k < i → get_or table k 0 ≡ three_figures k
 
-pub filled_none : (table : List ℕ) → Filled table 0
-filled_none table = record { done = λ k h. absurd (omega arith) }
-
-pub filled_next : (table : List ℕ) (i n v : ℕ) → Filled table i → i < length table → n ≡ i → v ≡ three_figures n → Filled (set table i v) (i + 1)
-filled_next table i n v f h s e = record { done = λ k g. at_place k g (eqb k i) refl }
+pub filled_next : (table : List ℕ) (i v : ℕ) → Filled table i → i < length table → v ≡ three_figures i → Filled (set table i v) (i + 1)
+filled_next table i v f h e = record { done = λ k g. at_place k g (eqb k i) refl }
   where
     at_place : (k : ℕ) → k < i + 1 → (b : Bool) → eqb k i ≡ b → get_or (set table i v) k 0 ≡ three_figures k
-    at_place k g true p = rw (eqb-true k i p) (get_or-set_same table i v 0 h ∙ e ∙ ap three_figures s)
+    at_place k g true p = rw (eqb-true k i p) (get_or-set_same table i v 0 h ∙ e)
     at_place k g false p =
         let other = eqb-false k i p in
         let below : k < i = omega (arith, other) in

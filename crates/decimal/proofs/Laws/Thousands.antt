@@ -77,8 +77,15 @@ zeros-off (suc j) ds =
     ∙ zeros-off j ds
 
 -- the count that an entry has, and what it has besides
-pub three-counted : (k v : ℕ) → k < 1000 → v ≡ three_figures k → v / 16777216 ≡ length (decimal k)
+three-counted : (k v : ℕ) → k < 1000 → v ≡ three_figures k → v / 16777216 ≡ length (decimal k)
 three-counted k v h e = omega arith
+
+-- the count picked: of a number below 1000 its own entry's, of another its thousands' and three
+pub picked-few : (n low : ℕ) → n < 1000 → low ≡ three_figures (n % 1000) → low / 16777216 ≡ length (decimal n)
+picked-few n low h e = three-counted (n % 1000) low (omega arith) e ∙ ap (λ (k : ℕ). length (decimal k)) (omega arith)
+
+pub picked-many : (n high : ℕ) → 1000 ≤ n → n < 1000000 → high ≡ three_figures (n / 1000) → 3 + high / 16777216 ≡ length (decimal n)
+picked-many n high m h e = omega (arith, three-counted (n / 1000) high (omega arith) e, length-thousands n m)
 
 three-joined : (k v : ℕ) → k < 1000 → v ≡ three_figures k → v % 16777216 ≡ joined (three k)
 unfolding joined

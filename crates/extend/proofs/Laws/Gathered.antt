@@ -3,6 +3,7 @@
 -- that are sorted; the record.
 -- Assumes nothing.
 use Prim.Native.Nat.{ℕ, ◌+◌, ◌*◌, ◌<◌}
+use Rattle.std.specs.Prelude.{Ok}
 use native.Mathlib.Omega.{arith}
 use mathlib.Core.Path.{◌≡◌, sym, ◌∙◌, ap, ap₂}
 use mathlib.Core.List.{List, ◌++◌, map, append_assoc}
@@ -20,7 +21,6 @@ use Rattle.semantics.specs.Form.{keeps_rules}
 use Rattle.semantics.proofs.Laws.Tests.{Each}
 use Rattle.semantics.proofs.Laws.Agree.{Speaks}
 use Rattle.semantics.proofs.Laws.Form.{keeps-count}
-use Rattle.record.specs.Result.{accepted}
 use Rattle.record.specs.Layout.{encoded_literals}
 use Rattle.record.proofs.Laws.Layout.{encoded-literals-append, length-encoded-literals}
 use Rattle.set.specs.Layout.{encoded_set}
@@ -67,7 +67,7 @@ module _ (p : Program) (spoken : Each (Speaks Fits) p) (short : length p < 65535
   narrow-marks : (u : LiteralSet) → Each Fits (marks_from 1 p u)
   narrow-marks u = marks-fit u 1 p (omega arith) spoken
 
-  module _ (F : Limits) (upto : ℕ) (k : List ℕ) (ls : List Literal) (m : parsed_set F upto k ≡ accepted ls) (places : Bytes k) where
+  module _ (F : Limits) (upto : ℕ) (k : List ℕ) (ls : List Literal) (m : parsed_set F upto k ≡ Ok ls) (places : Bytes k) where
     -- the marks in the set that is searched are those in the set
     same-marks : marks_from 1 p (key_set k (length ls)) ≡ marks_from 1 p (set_of ls)
     same-marks = marks-same Fits (key_set k (length ls)) (set_of ls) (read-agree F upto k ls places m) 1 p spoken

@@ -2,6 +2,7 @@
 -- In order: a file and a set that are held: 9, and the record; a refusal of either; both, as read; the form of sources.
 -- Assumes nothing.
 use Prim.Native.Nat.{ℕ, ◌+◌, ◌*◌, ◌≤◌, ◌<◌}
+use Rattle.std.specs.Prelude.{Ok, Err}
 use native.Mathlib.Omega.{arith}
 use mathlib.Core.Path.{◌≡◌, refl, sym, ◌∙◌, ap, subst}
 use mathlib.Core.List.{List, map}
@@ -22,10 +23,8 @@ use Rattle.semantics.proofs.Laws.Expansion.{kept-items}
 use Rattle.record.specs.declared.Reason.TheVariants.{OutputShort}
 use Rattle.record.specs.declared.Refusal.{Refusal}
 use Rattle.record.specs.declared.Held.{Held}
-use Rattle.record.specs.declared.Written.{Written}
-use Rattle.record.specs.declared.Written.TheVariants.{Length, Refused}
 use Rattle.record.specs.Refusal.{refusal}
-use Rattle.record.specs.Result.{Result, accepted, delivered}
+use Rattle.record.specs.Result.{Answer, delivered}
 use Rattle.record.specs.Meets.{Meets}
 use Rattle.record.proofs.Laws.Delivered.{meets-refused, meets-short, meets-written}
 use Rattle.record.proofs.Laws.Keeps.{kept-file}
@@ -35,7 +34,6 @@ use Rattle.set.specs.Layout.{encoded_set}
 use Rattle.set.specs.Code.{Ascends, key_set}
 use Rattle.set.proofs.Laws.Reading.{parsed-set-sound, keeps-set-most}
 use Rattle.set.proofs.Laws.Keys.{set_long, set-ascends}
-use Rattle.inputs.specs.declared.Both.{Both}
 use Rattle.inputs.specs.Code.{both_read, Inputs}
 use Rattle.inputs.proofs.Laws.Inputs.{inputs-refused, inputs-made}
 use Rattle.keys.specs.Keys.{sorted_keys}
@@ -91,25 +89,25 @@ module _ (s k : List ℕ) (count : ℕ) (w : Extending s k count) (bs : Bytes s)
         ∙ ap (λ (c : ℕ). 4 + 5 * (c + n)) (sym w.counted)
 
     -- 9 for a shorter buffer
-    pub extending-short : (out : List ℕ) → length out < 4 + 5 * (count + n) → Meets (extension_of held w.literals out) (Refused (refusal OutputShort 0)) out
+    pub extending-short : (out : List ℕ) → length out < 4 + 5 * (count + n) → Meets (extension_of held w.literals out) (Err (refusal OutputShort 0)) out
     unfolding bytes
-    extending-short out h = meets-short (accepted bytes) out bytes refl (omega (arith, size))
+    extending-short out h = meets-short (Ok bytes) out bytes refl (omega (arith, size))
 
     -- the record, where there is room
     pub extending-written : (out e : List ℕ) → 4 + 5 * (count + n) ≤ length out → e ≡ write out 0 (joined k count (take n x) n)
-        → Meets (extension_of held w.literals out) (Length (4 + 5 * (count + n))) e
+        → Meets (extension_of held w.literals out) (Ok (4 + 5 * (count + n))) e
     unfolding bytes
     extending-written out e h done =
         let same = ap (λ (c : ℕ). joined k c (take n x) n) w.counted
         ∙ gathered-record held spoken w.file.asked.short w.form w.upto k w.literals w.members bk d x n room sorted-marks in
-        meets-written (accepted bytes) out bytes refl (omega (arith, size)) (4 + 5 * (count + n)) e (sym size) (done ∙ ap (write out 0) same)
+        meets-written (Ok bytes) out bytes refl (omega (arith, size)) (4 + 5 * (count + n)) e (sym size) (done ∙ ap (write out 0) same)
 
 module _ (F : Limits) (s k : List ℕ) where
   -- a refusal of the program or the set is the answer
-  pub extended-refused : (out : List ℕ) (x : Refusal) → both_read F F.literals s k ≡ Both.Refused x → Meets (extended F s k out) (Refused x) out
+  pub extended-refused : (out : List ℕ) (x : Refusal) → both_read F F.literals s k ≡ Err x → Meets (extended F s k out) (Err x) out
   unfolding extended extension_bytes
   extended-refused out x e =
-      meets-refused (extension_bytes F s k) out x (inputs-refused F F.literals s k (λ p ls. accepted (encoded_set (extension_list p ls))) x e)
+      meets-refused (extension_bytes F s k) out x (inputs-refused F F.literals s k (λ p ls. Ok (encoded_set (extension_list p ls))) x e)
 
   -- both were read, in a form for which an extension is made
   module _ (ok : Extendable F) {h : Held} {count : ℕ} (w : Inputs F F.literals s k h count) (bs : Bytes s) (bk : Bytes k) where
@@ -135,18 +133,18 @@ module _ (F : Limits) (s k : List ℕ) where
         }
 
     -- that for the written rules is that for the program that is meant: it is the outcome
-    pub read-met : (out : List ℕ) {r : Written} {e : List ℕ} → ((v : Extending s k count) → Meets (extension_of (rules v.file.items) v.literals out) r e)
+    pub read-met : (out : List ℕ) {r : Answer ℕ} {e : List ℕ} → ((v : Extending s k count) → Meets (extension_of (rules v.file.items) v.literals out) r e)
         → Meets (extended F s k out) r e
     unfolding extended extension_bytes read-extending
     read-met out {r} {e} m =
-        subst (λ (q : Result (List ℕ)). Meets (delivered q out) r e)
+        subst (λ (q : Answer (List ℕ)). Meets (delivered q out) r e)
         (sym
-        (inputs-made F F.literals s k (λ p ls. accepted (encoded_set (extension_list p ls))) w
-        ∙ ap (λ (ls : List Literal). accepted (encoded_set ls)) (extension-written w.file w.literals)))
+        (inputs-made F F.literals s k (λ p ls. Ok (encoded_set (extension_list p ls))) w
+        ∙ ap (λ (ls : List Literal). Ok (encoded_set ls)) (extension-written w.file w.literals)))
         (m read-extending)
 
 -- the same limits have the same outcome
-pub meets-same : (F G : Limits) (s k out : List ℕ) {r : Written} {e : List ℕ} → F ≡ G → Meets (extended F s k out) r e → Meets (extended G s k out) r e
+pub meets-same : (F G : Limits) (s k out : List ℕ) {r : Answer ℕ} {e : List ℕ} → F ≡ G → Meets (extended F s k out) r e → Meets (extended G s k out) r e
 meets-same F G s k out {r} {e} same m = subst (λ (H : Limits). Meets (extended H s k out) r e) same m
 
 -- an extension is made in the form of sources

@@ -8,6 +8,7 @@ use native.Mathlib.Nat.{zero-add}
 use mathlib.Core.Path.{◌≡◌, refl, sym, ◌∙◌, ap, subst}
 use mathlib.Core.List.{List, [], ◌∷◌, ◌++◌, map, map-append, append-nil}
 use lib.ListN.{length, length-append, length-map}
+use Rattle.std.proofs.Common.{◌⊎◌, inl, inr}
 use Rattle.literal.specs.declared.Literal.{Literal}
 use Rattle.literal.specs.declared.Literal.TheVariants.{Signed}
 use Rattle.literal.specs.Order.{key}
@@ -15,16 +16,16 @@ use Rattle.semantics.specs.Set.{LiteralSet}
 use Rattle.semantics.specs.Rule.{Rule, strict, defeasible, Program}
 use Rattle.semantics.specs.Item.{Item, rule, override, opposition, rules}
 use Rattle.semantics.proofs.Laws.Expansion.{rules-append}
-use Rattle.record.specs.Header.{letter_of}
+use Rattle.record.specs.Header.{override_letter, opposition_letter, letter_of}
 use Rattle.record_walk.specs.Code.{record_size, item_size, Starts}
 use Rattle.record_walk.proofs.Laws.Fields.{strict-fields, defeasible-fields}
-use Rattle.record_walk.proofs.Laws.Items.{StartsItem, MoreItem, starts-rule, rule-letter, size-rule, item-rule}
+use Rattle.record_walk.proofs.Laws.Items.{StartsItem, starts-rule, rule-letter, size-rule, item-rule}
+use Rattle.record_walk.proofs.Laws.ItemRecords.{NextItem}
 use Rattle.extend_marks.specs.Marks.{rule_marks, marks_from}
-use Rattle.extend_marks.specs.Code.{Gained, rule_room, marks_room, MarkableFile, sheet_size, Roomy}
+use Rattle.extend_marks.specs.Code.{Gained, rule_room, marks_room, MarkableFile, Roomy}
 use Rattle.extend_marks.proofs.Laws.Gained.{gained-none, gained-behind}
 use Rattle.extend_marks.proofs.Laws.Count.{length-program, room-append}
 use Rattle.extend_marks.proofs.Laws.Expanded.{marks-append}
-use Rattle.extend_marks.proofs.Laws.Sheet.{sheet-none, no-sheet}
 
 -- one rule more, as keys
 keys-next : (u : LiteralSet) (gone : Program) (r : Rule)
@@ -60,17 +61,16 @@ pub record NextRule (is gone : List Item) (i : Item) (t : List ℕ) : Type 0 whe
   pub split : rules is ≡ rules gone ++ the-rule ∷ behind
   pub further : rules (gone ++ i ∷ []) ≡ rules gone ++ the-rule ∷ []
 
-module _ {s : List ℕ} {is gone : List Item} {at : ℕ} {t : List ℕ} (m : MoreItem s is gone at t) where
+module _ {is gone : List Item} {t : List ℕ} (m : NextItem is gone t) where
   -- it is where its letter is no sheet's
-  pub next-rule : sheet_size (letter_of t) ≡ 0 → NextRule is gone m.the-item t
+  pub next-rule : (letter_of t ≡ override_letter → ⊥) → (letter_of t ≡ opposition_letter → ⊥) → NextRule is gone m.the-item t
   unfolding rules
-  next-rule none =
-      let letter = no-sheet (letter_of t) none in
-      let w = item-rule t m.the-item m.starts letter.0 letter.1 in
+  next-rule no-o no-x =
+      let w = item-rule t m.the-item m.starts no-o no-x in
       record {
         the-rule = w.0;
         starts = starts-rule t w.0 (subst (StartsItem t) w.1 m.starts);
-        size = size-rule t letter.0 letter.1;
+        size = size-rule t no-o no-x;
         behind = rules m.behind;
         split =
             ap rules (m.split ∙ ap (λ (i : Item). gone ++ i ∷ m.behind) w.1) ∙ rules-append gone (rule w.0 ∷ m.behind);
@@ -78,12 +78,12 @@ module _ {s : List ℕ} {is gone : List Item} {at : ℕ} {t : List ℕ} (m : Mor
       }
 
   -- elsewhere the rules that are gone stay as they are
-  pub rules-stay : 0 < sheet_size (letter_of t) → rules (gone ++ m.the-item ∷ []) ≡ rules gone
+  pub rules-stay : (letter_of t ≡ override_letter) ⊎ (letter_of t ≡ opposition_letter) → rules (gone ++ m.the-item ∷ []) ≡ rules gone
   unfolding rules
-  rules-stay some = rules-append gone (m.the-item ∷ []) ∙ go m.the-item m.starts
+  rules-stay sheet = rules-append gone (m.the-item ∷ []) ∙ go m.the-item m.starts
     where
       go : (i : Item) → StartsItem t i → rules gone ++ rules (i ∷ []) ≡ rules gone
-      go (rule r) w = let letter = rule-letter t r w in absurd (omega (arith, sheet-none (letter_of t) letter.0 letter.1))
+      go (rule r) w = let letter = rule-letter t r w in elim sheet [ inl o ↦ absurd (letter.0 o) | inr x ↦ absurd (letter.1 x) ]
       go (override o) w = append-nil (rules gone)
       go (opposition x) w = append-nil (rules gone)
 

@@ -1,9 +1,9 @@
 -- Laws of the marks that a rule adds, option by option, and of those of a rule whose record is at hand.
 -- In order: one option; options one behind the other; a rule all of whose options are defeated; strict and defeasible rules.
 -- Assumes nothing.
-use Prim.Native.Nat.{ℕ, ◌+◌, ◌-◌, ◌≤◌, ◌<◌}
+use Prim.Native.Nat.{ℕ, ◌+◌, ◌-◌, ◌*◌, ◌≤◌, ◌<◌}
 use native.Mathlib.Omega.{arith}
-use mathlib.Core.Path.{◌≡◌, refl, sym, ◌∙◌, ap}
+use mathlib.Core.Path.{◌≡◌, refl, sym, ◌∙◌, ap, ap₂}
 use mathlib.Core.Bool.{Bool, true, false, cond, not, ◌&&◌}
 use mathlib.Core.List.{List, [], ◌∷◌, ◌++◌, map}
 use lib.Dec.{T}
@@ -90,6 +90,24 @@ module _ (t : Tag) (s : LiteralSet) where
 
     pub defeated-none : (at n : ℕ) → n ≤ 0 → each_of (λ a. s (Defeated t a)) (options_at x at n) ≡ true
     defeated-none at n h = ap (each_of (λ a. s (Defeated t a))) (options-none x at n h)
+
+    module _ (from n i : ℕ) (l : i < n) where
+      abbrev at : ℕ
+      at = from + 5 * i
+
+      rest : options_at x (at + 5) (n - i - 1) ≡ options_at x (from + 5 * (i + 1)) (n - (i + 1))
+      rest = ap₂ (options_at x) (omega arith) (omega arith)
+
+      -- option number i of n, and those behind it
+      pub marks-step : map key (derived_marks t (options_at x at (n - i)) s)
+          ≡ map key (derived_marks t (option_at x at ∷ []) s) ++ map key (derived_marks t (options_at x (from + 5 * (i + 1)) (n - (i + 1))) s)
+      marks-step =
+          marks-first at (n - i) (omega arith)
+          ∙ ap (λ os. map key (derived_marks t (option_at x at ∷ []) s) ++ map key (derived_marks t os s)) rest
+
+      pub defeated-step : s (Defeated t (option_at x at)) ≡ true
+          → each_of (λ a. s (Defeated t a)) (options_at x at (n - i)) ≡ each_of (λ a. s (Defeated t a)) (options_at x (from + 5 * (i + 1)) (n - (i + 1)))
+      defeated-step e = defeated-next at (n - i) (omega arith) e ∙ ap (each_of (λ a. s (Defeated t a))) rest
 
   -- where all options are defeated, none is derived
   pub none-derived : (h : List SignedAtom) → T (each_of (λ a. s (Defeated t a)) h) → derived_marks t h s ≡ []

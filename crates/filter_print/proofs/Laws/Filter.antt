@@ -4,6 +4,7 @@
 -- what the filter's function promises, of a translation and of a refusal.
 -- Assumes nothing.
 use Prim.Native.Nat.{ℕ, ◌+◌, ◌≤◌, ◌<◌}
+use Rattle.std.specs.Prelude.{Ok, Err}
 use native.Mathlib.Omega.{arith}
 use mathlib.Core.Path.{◌≡◌, refl, sym, ◌∙◌, ap, ap₂, subst}
 use mathlib.Core.Bool.{Bool, true, false}
@@ -18,10 +19,8 @@ use Rattle.literal.specs.Limits.{source}
 use Rattle.semantics.specs.Translation.{translation}
 use Rattle.record.specs.declared.Reason.TheVariants.{OutputShort}
 use Rattle.record.specs.declared.Refusal.{Refusal}
-use Rattle.record.specs.declared.Written.{Written}
-use Rattle.record.specs.declared.Written.TheVariants.{Length, Refused}
 use Rattle.record.specs.Refusal.{refusal, encoded_refusal}
-use Rattle.record.specs.Result.{Result, accepted, refused, Outcome, delivered}
+use Rattle.record.specs.Result.{Answer, Outcome, delivered}
 use Rattle.record.specs.Layout.{encoded_program}
 use Rattle.record.specs.Reading.{parsed}
 use Rattle.record.specs.Meets.{Meets}
@@ -34,8 +33,8 @@ use Rattle.filter_print.specs.Filter.{input_size, output_size, printed, filtered
 -- how a result ends in a buffer that was out, and what is printed of it: refused, which leaves the buffer; or written
 -- to its start
 data Ends (out : List ℕ) : Outcome → List ℕ → Type 0 where
-  turned : (x : Refusal) → Ends out (record { answer = Refused x; buffer = out }) (encoded_refusal x)
-  put : (bs : List ℕ) → Ends out (record { answer = Length (length bs); buffer = write out 0 bs }) bs
+  turned : (x : Refusal) → Ends out (record { answer = Err x; buffer = out }) (encoded_refusal x)
+  put : (bs : List ℕ) → Ends out (record { answer = Ok (length bs); buffer = write out 0 bs }) bs
 
 -- what is written to the start is what stands there
 put_first : (out bs : List ℕ) → take (length bs) (write out 0 bs) ≡ bs
@@ -50,24 +49,24 @@ ends-printed {out} (put bs) = put_first out bs
 told_by : List ℕ → Bool → List ℕ
 told_by bs b = elim b [ true ↦ encoded_refusal (refusal OutputShort 0) | false ↦ bs ]
 
-told : Result (List ℕ) → ℕ → List ℕ
-told (refused x) n = encoded_refusal x
-told (accepted bs) n = told_by bs (ltb n (length bs))
+told : Answer (List ℕ) → ℕ → List ℕ
+told (Err x) n = encoded_refusal x
+told (Ok bs) n = told_by bs (ltb n (length bs))
 
-delivered-ends : (q : Result (List ℕ)) (out : List ℕ) → Ends out (delivered q out) (told q (length out))
+delivered-ends : (q : Answer (List ℕ)) (out : List ℕ) → Ends out (delivered q out) (told q (length out))
 unfolding told told_by
-delivered-ends (refused x) out = rw delivered-refused (turned x)
-delivered-ends (accepted bs) out = go (ltb (length out) (length bs)) refl
+delivered-ends (Err x) out = rw delivered-refused (turned x)
+delivered-ends (Ok bs) out = go (ltb (length out) (length bs)) refl
   where
-    go : (b : Bool) → ltb (length out) (length bs) ≡ b → Ends out (delivered (accepted bs) out) (told_by bs b)
+    go : (b : Bool) → ltb (length out) (length bs) ≡ b → Ends out (delivered (Ok bs) out) (told_by bs b)
     go true e = rw (delivered-short bs out (ltb-true (length out) (length bs) e)) (turned (refusal OutputShort 0))
     go false e = rw (delivered-fits bs out (ltb-false (length out) (length bs) e)) (put bs)
 
 -- the place of what translating refuses fits the four bytes that an R: record has for it: a source has fewer bytes
-pub translated-place : (s out : List ℕ) (x : Refusal) → (translated source s out).answer ≡ Refused x → x.place < 4294967296
+pub translated-place : (s out : List ℕ) (x : Refusal) → (translated source s out).answer ≡ Err x → x.place < 4294967296
 unfolding source translated translated_bytes
 translated-place s out x e =
-    let placed = and-then-placed source.length (parsed source s) (λ p. accepted (encoded_program (translation p))) (parsed-placed source s) (λ p. tt) in
+    let placed = and-then-placed source.length (parsed source s) (λ p. Ok (encoded_program (translation p))) (parsed-placed source s) (λ p. tt) in
     omega (arith, delivered-place source.length (translated_bytes source s) out placed x e)
 
 -- what is written to the buffer's start
@@ -81,12 +80,12 @@ length-refusal : (x : Refusal) → length (encoded_refusal x) ≡ 7
 unfolding encoded_refusal
 length-refusal x = refl
 
-module _ (out : List ℕ) (r : Written) where
-  put-prints : {bs : List ℕ} {o : Outcome} → Ends out o bs → (n : ℕ) (e : List ℕ) → Meets o r e → r ≡ Length n → Prints bs out n e
+module _ (out : List ℕ) (r : Answer ℕ) where
+  put-prints : {bs : List ℕ} {o : Outcome} → Ends out o bs → (n : ℕ) (e : List ℕ) → Meets o r e → r ≡ Ok n → Prints bs out n e
   put-prints (turned x) n e m q = let z : ◌≡◌ {A = ℕ} 0 1 = cc m.answer in absurd (omega (arith, z))
   put-prints (put bs) n e m q = let long : n ≡ length bs = cc m.answer in prints bs out n e long m.buffer
 
-  turned-prints : {bs : List ℕ} {o : Outcome} → Ends out o bs → (x : Refusal) (d e : List ℕ) → Meets o r d → r ≡ Refused x → e ≡ write d 0 (encoded_refusal x)
+  turned-prints : {bs : List ℕ} {o : Outcome} → Ends out o bs → (x : Refusal) (d e : List ℕ) → Meets o r d → r ≡ Err x → e ≡ write d 0 (encoded_refusal x)
       → Prints bs out 7 e
   turned-prints (put bs) x d e m q done = let z : ◌≡◌ {A = ℕ} 0 1 = cc m.answer in absurd (omega (arith, z))
   turned-prints (turned y) x d e m q done =
@@ -103,12 +102,12 @@ module _ (came out : List ℕ) (fits : length came ≤ input_size) (room : lengt
       let all = ap (λ (s : List ℕ). printed (translated source s (replicate output_size 0))) (sym (take_all input_size came fits)) in
       subst (Ends out (delivered q out)) (same ∙ all) (delivered-ends q out)
 
-  module _ (r : Written) where
+  module _ (r : Answer ℕ) where
     -- a translation is printed as it was written
-    pub prints-length : (n : ℕ) (e : List ℕ) → Meets (translated source came out) r e → r ≡ Length n → Prints (filtered came) out n e
+    pub prints-length : (n : ℕ) (e : List ℕ) → Meets (translated source came out) r e → r ≡ Ok n → Prints (filtered came) out n e
     prints-length n e m q = put-prints out r filtered-ends n e m q
 
     -- of a refusal its R: record is, written over what was left
-    pub prints-refusal : (x : Refusal) (d e : List ℕ) → Meets (translated source came out) r d → r ≡ Refused x → e ≡ write d 0 (encoded_refusal x)
+    pub prints-refusal : (x : Refusal) (d e : List ℕ) → Meets (translated source came out) r d → r ≡ Err x → e ≡ write d 0 (encoded_refusal x)
         → Prints (filtered came) out 7 e
     prints-refusal x d e m q done = turned-prints out r filtered-ends x d e m q done

@@ -2,14 +2,14 @@
 -- In order: the length of a key's bytes; three fields written one behind the other; the first of the keys that are left; keys
 -- that fit five bytes; a literal's key has its bytes, and fits.
 -- Assumes nothing.
-use Prim.Native.Nat.{ℕ, suc, ◌+◌, ◌*◌, ◌/◌, ◌%◌, ◌<◌, ◌≤◌}
+use Prim.Native.Nat.{ℕ, ◌+◌, ◌*◌, ◌/◌, ◌%◌, ◌<◌, ◌≤◌}
 use native.Mathlib.Numerals.{add-one}
 use native.Mathlib.Omega.{arith}
 use mathlib.Core.Path.{◌≡◌, refl, ◌∙◌, ap, subst}
 use mathlib.Core.List.{List, [], ◌∷◌, ◌++◌}
 use lib.Dec.{T, eqb, eqb→eq}
-use lib.ListN.{length, get_or, take, drop, drop_of_length-le}
-use lib.Seq.{drop-cons, get_or-take, length-take-le}
+use lib.ListN.{length, get_or, drop, drop_of_length-le}
+use lib.Seq.{drop-cons}
 use Rattle.buffer.specs.Bytes.{two_bytes}
 use Rattle.buffer.specs.Write.{write}
 use Rattle.buffer.proofs.Laws.Next.{write_then}
@@ -40,25 +40,20 @@ write-fields d at k h =
     ap (λ (e : List ℕ). write e (at + 3) (two_bytes (k % 65536))) (write_then d at top (at + 1) tag (omega arith) refl)
     ∙ write_then d at (top ++ tag) (at + 3) (two_bytes (k % 65536)) (omega arith) refl
 
-module _ (ks : List ℕ) (n : ℕ) (fits : n ≤ length ks) (i : ℕ) where
+module _ (ks : List ℕ) (i : ℕ) where
   -- the first of the keys that are left
-  pub keys-first : i < n → key_bytes (drop i (take n ks)) ≡ bytes_of (get_or ks i 0) ++ key_bytes (drop (i + 1) (take n ks))
+  pub keys-first : i < length ks → key_bytes (drop i ks) ≡ bytes_of (get_or ks i 0) ++ key_bytes (drop (i + 1) ks)
   unfolding key_bytes
-  keys-first h =
-      rw add-one
-      (ap key_bytes (drop-cons (take n ks) i 0 (omega (arith, length-take-le n ks fits)))
-      ∙ ap (λ (k : ℕ). bytes_of k ++ key_bytes (drop (suc i) (take n ks))) (get_or-take n ks i 0 h))
+  keys-first h = rw add-one (ap key_bytes (drop-cons ks i 0 h))
 
   -- none is left
-  pub keys_none : n ≤ i → key_bytes (drop i (take n ks)) ≡ []
+  pub keys_none : length ks ≤ i → key_bytes (drop i ks) ≡ []
   unfolding key_bytes
-  keys_none h = ap key_bytes (drop_of_length-le (take n ks) {i = i} (omega (arith, length-take-le n ks fits)))
+  keys_none h = ap key_bytes (drop_of_length-le ks {i = i} h)
 
 -- a key at a place fits five bytes where all keys do
-pub fitting-at : (ks : List ℕ) (n i : ℕ) → n ≤ length ks → Fitting (take n ks) → i < n → get_or ks i 0 < 1099511627776
-fitting-at ks n i fits f h =
-    subst (λ (k : ℕ). k < 1099511627776) (get_or-take n ks i 0 h)
-    (f (get_or (take n ks) i 0) (in-at (take n ks) i (omega (arith, length-take-le n ks fits))))
+pub fitting-at : (ks : List ℕ) (i : ℕ) → Fitting ks → i < length ks → get_or ks i 0 < 1099511627776
+fitting-at ks i f h = f (get_or ks i 0) (in-at ks i h)
 
 -- keys that fit, made and sorted
 pub fitting-nil : Fitting []

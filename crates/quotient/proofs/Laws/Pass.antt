@@ -14,16 +14,15 @@ use Rattle.buffer.proofs.Laws.Next.{write-behind}
 use Rattle.semantics.specs.Set.{LiteralSet}
 use Rattle.semantics.specs.Rule.{Program}
 use Rattle.semantics.specs.Meaning.{remainder, quotient}
-use Rattle.record.specs.Layout.{encoded_end, encoded_rules}
-use Rattle.record_walk.specs.Code.{record_size}
-use Rattle.record_walk.proofs.Laws.Walk.{More}
+use Rattle.record.specs.Layout.{encoded_end, encoded_rules, encoded_program}
+use Rattle.record_walk.proofs.Laws.Records.{Next}
 use Rattle.set.specs.Code.{key_set}
 use Rattle.quotient_rule.specs.Code.{remainder_at}
 use Rattle.quotient.specs.Code.{quotient_of}
-use Rattle.quotient.proofs.Laws.Program.{remainder_bytes, count-bytes, left_bytes, left_split, left-next, count_next, left-shorter, quotient-bytes, length-quotient}
+use Rattle.quotient.proofs.Laws.Program.{remainder_bytes, count-bytes, left_bytes, left_split, left-next, count_next, rules-left, quotient-bytes, length-quotient, quotient-of-short}
 use Rattle.quotient.proofs.Laws.Meaning.{remainder-at}
 
-module _ {s : List ℕ} {p gone : Program} {at : ℕ} {t : List ℕ} (m : More s p gone at t) (k : List ℕ) (n : ℕ) where
+module _ {p gone : Program} {t : List ℕ} (m : Next p gone t) (k : List ℕ) (n : ℕ) where
   -- the bytes that are left of the next rule
   left-of : remainder_bytes (remainder m.the-rule (key_set k n)) ≡ remainder_at t k n
   left-of = sym (remainder-at t k n m.the-rule m.starts)
@@ -35,11 +34,7 @@ module _ {s : List ℕ} {p gone : Program} {at : ℕ} {t : List ℕ} (m : More s
   pub adds_bytes : length (left_bytes (key_set k n) (gone ++ m.the-rule ∷ [])) ≡ length (left_bytes (key_set k n) gone) + length (remainder_at t k n)
   adds_bytes = ap length adds ∙ length-append (left_bytes (key_set k n) gone) (remainder_at t k n)
 
-  -- no more than were passed
-  pub adds-few : length (left_bytes (key_set k n) gone) + length (remainder_at t k n) ≤ at + record_size t
-  adds-few = omega (arith, adds_bytes, left-shorter (key_set k n) (gone ++ m.the-rule ∷ []), (m.next (record_size t) refl).passed)
-
-  -- and there is room for them, and for the end record
+  -- there is room for them, and for the end record
   pub adds-within : length (left_bytes (key_set k n) gone) + length (remainder_at t k n) + 4 ≤ length (quotient_of p (key_set k n))
   adds-within =
       let u = key_set k n in
@@ -53,6 +48,14 @@ module _ {s : List ℕ} {p gone : Program} {at : ℕ} {t : List ℕ} (m : More s
         length-append one (left_bytes u m.behind),
         ap length left-of,
       )
+
+  -- and no more than the program has
+  pub adds-few : length (left_bytes (key_set k n) gone) + length (remainder_at t k n) + 4 ≤ length (encoded_program p)
+  adds-few = omega (arith, adds-within, quotient-of-short p (key_set k n))
+
+  -- with that rule, no more rules are left than the program has
+  pub rules-few : length (quotient gone (key_set k n)) + 1 ≤ length p
+  rules-few = omega (arith, rules-left (key_set k n) gone, ap length m.split, length-append gone (m.the-rule ∷ m.behind))
 
 -- a record counts at most once
 pub one-few : (n one : ℕ) → one ≡ cond (eqb n 0) 0 1 → one ≤ 1
@@ -72,7 +75,7 @@ pub made-start : (u : LiteralSet) (out : List ℕ) → Made u out out 0 0 []
 unfolding left_bytes quotient encoded_rules
 made-start u out = record { counted = refl; long = refl; written = sym (write-nil out 0) }
 
-pub made-next : {s out₀ out e t : List ℕ} {p gone : Program} {at made to : ℕ} (k : List ℕ) (n : ℕ) (m : More s p gone at t)
+pub made-next : {out₀ out e t : List ℕ} {p gone : Program} {made to : ℕ} (k : List ℕ) (n : ℕ) (m : Next p gone t)
     → Made (key_set k n) out₀ out made to gone
     → e ≡ write out to (remainder_at t k n) → (size one : ℕ) → size ≡ length (remainder_at t k n) → one ≡ cond (eqb size 0) 0 1
     → Made (key_set k n) out₀ e (made + one) (to + size) (gone ++ m.the-rule ∷ [])

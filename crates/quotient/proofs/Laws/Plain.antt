@@ -1,6 +1,7 @@
 -- What is written is read in plain form as the quotient, as strict rules without naf literals.
 -- In order: a form whose figures hold another's; rules that are left; the quotient; the two forms. Assumes nothing.
 use Prim.Native.Nat.{◌≤◌}
+use Rattle.std.specs.Prelude.{Ok}
 use native.Mathlib.Omega.{arith}
 use mathlib.Core.Path.{◌≡◌}
 use mathlib.Core.Bool.{Bool, true, false, cond}
@@ -25,7 +26,6 @@ use Rattle.semantics.proofs.Laws.Form.{Kept, kept, strict-keeps}
 use Rattle.semantics.proofs.Laws.Expanded.{Expanded, expanded-few, expanded-each}
 use Rattle.semantics.proofs.Laws.Agree.{each-undefeated}
 use Rattle.semantics.proofs.Laws.Meaning.{undefeated-few}
-use Rattle.record.specs.Result.{accepted}
 use Rattle.record.specs.Reading.{parsed}
 use Rattle.record.specs.Layout.{encoded_program}
 use Rattle.record.proofs.Laws.Keeps.{keeps-program}
@@ -91,7 +91,7 @@ module _ (F G : Limits) (w : Within F G) where
 
 -- a quotient is read, in a form whose figures are as large, as the program that it is
 pub quotient-read : (F G : Limits) → Within F G → (p : Program) (ls : List Literal) → Expanded F p → length (encoded_program p) ≤ (wide F).length
-    → parsed G (encoded_program (quotient_program p ls)) ≡ accepted (quotient_program p ls)
+    → parsed G (encoded_program (quotient_program p ls)) ≡ Ok (quotient_program p ls)
 unfolding quotient_program wide
 quotient-read F G w p ls e short =
     let q = quotient p (set_of ls) in

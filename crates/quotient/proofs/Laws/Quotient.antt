@@ -1,13 +1,14 @@
 -- Laws of the operation: its outcome from what reading gave, and the answers that meet it.
 -- In order: a program and a set that are held: 9, and what is written; that their quotient can be; a refusal of the program or the set;
--- the program that is meant; both, as read; what is given and answered, with sheets or without; the two forms. Assumes nothing.
+-- the program that is meant; both, as read; without sheets, and with them; the two forms. Assumes nothing.
 use Prim.Native.Nat.{ℕ, ◌*◌, ◌+◌, ◌≤◌}
+use Rattle.std.specs.Prelude.{Ok, Err}
 use native.Mathlib.Omega.{arith}
 use mathlib.Core.Path.{◌≡◌, refl, sym, ◌∙◌, ap, subst}
 use mathlib.Core.Bool.{Bool, true, false}
 use mathlib.Core.List.{List, map}
 use lib.Dec.{leb}
-use lib.ListN.{length, take}
+use lib.ListN.{length}
 use borrow.Author.Tests.{leb-true, leb-false}
 use Rattle.buffer.specs.Bytes.{Bytes}
 use Rattle.buffer.specs.Write.{write}
@@ -24,10 +25,8 @@ use Rattle.semantics.proofs.Laws.Expanded.{Expanded, expanded-few}
 use Rattle.record.specs.declared.Held.{Held}
 use Rattle.record.specs.declared.Reason.TheVariants.{OutputShort}
 use Rattle.record.specs.declared.Refusal.{Refusal}
-use Rattle.record.specs.declared.Written.{Written}
-use Rattle.record.specs.declared.Written.TheVariants.{Length, Refused}
 use Rattle.record.specs.Refusal.{refusal}
-use Rattle.record.specs.Result.{Result, accepted, delivered}
+use Rattle.record.specs.Result.{Answer, delivered}
 use Rattle.record.specs.Layout.{encoded_program}
 use Rattle.record.specs.Reading.{parsed}
 use Rattle.record.specs.Meets.{Meets}
@@ -35,17 +34,16 @@ use Rattle.record.proofs.Laws.Delivered.{meets-refused, meets-short, meets-writt
 use Rattle.record.proofs.Laws.Reading.{items-parsed}
 use Rattle.record.proofs.Laws.Meant.{items-expanded}
 use Rattle.record.proofs.Laws.Fit.{program-fits}
-use Rattle.record_walk.specs.Code.{Holds, HoldsFile}
-use Rattle.expand.specs.Code.{Expandable, normal_bytes, Normalizable, Normal}
-use Rattle.expand.proofs.Laws.File.{means-wider, file-means, normal-holds}
+use Rattle.record_walk.specs.Code.{Holds}
+use Rattle.expand.specs.Code.{normal_bytes, Normalizable, normal_bytes, NormalOf}
+use Rattle.expand.proofs.Laws.File.{file-means, normal-of}
 use Rattle.set.specs.Reading.{parsed_set}
 use Rattle.set.specs.Code.{Ascends, key_set}
 use Rattle.set.proofs.Laws.Keys.{set_long, set-ascends, read-agree}
-use Rattle.inputs.specs.declared.Both.{Both}
 use Rattle.inputs.specs.Code.{both_read, Inputs}
 use Rattle.inputs.proofs.Laws.Inputs.{inputs-refused, inputs-given}
 use Rattle.quotient.specs.Quotient.{remainder_rule, quotient_program, quotient_bytes, quotiented}
-use Rattle.quotient.specs.Code.{quotient_of, Sized, Countable, Fitting, Dividing, DividingFile, delivered_quotient, Given, Answered}
+use Rattle.quotient.specs.Code.{quotient_of, Sized, Countable, Fitting, Dividing, DividingFile, delivered_quotient}
 
 module _ (s k out : List ℕ) {c : ℕ} (w : Dividing s k c) (program-bytes : Bytes s) (set_bytes : Bytes k) where
   -- the set can be searched
@@ -74,10 +72,10 @@ module _ (s k out : List ℕ) {c : ℕ} (w : Dividing s k c) (program-bytes : By
 
   module _ (b : Bool) (told : (v : Holds Countable s) → b ≡ leb (length (quotient_of v.program (key_set k c))) (length out)) where
     -- 9
-    pub short-met : b ≡ false → Meets (delivered_quotient w.program.program w.literals out) (Refused (refusal OutputShort 0)) out
+    pub short-met : b ≡ false → Meets (delivered_quotient w.program.program w.literals out) (Err (refusal OutputShort 0)) out
     unfolding bytes
     short-met h =
-        meets-short (accepted bytes) out bytes refl
+        meets-short (Ok bytes) out bytes refl
         (omega (arith, leb-false (length bytes) (length out) (ap (λ (x : List ℕ). leb (length x) (length out)) (sym same) ∙ sym (told w.program) ∙ h)))
 
     module _ (h : b ≡ true) where
@@ -90,16 +88,16 @@ module _ (s k out : List ℕ) {c : ℕ} (w : Dividing s k c) (program-bytes : By
       -- the quotient
       pub written-met : (n : ℕ) (e : List ℕ) → ((v : Holds (Fitting (key_set k c) (length out)) s) → n ≡ length (quotient_of v.program (key_set k c)))
           → ((v : Holds (Fitting (key_set k c) (length out)) s) → e ≡ write out 0 (quotient_of v.program (key_set k c)))
-          → Meets (delivered_quotient w.program.program w.literals out) (Length n) e
+          → Meets (delivered_quotient w.program.program w.literals out) (Ok n) e
       unfolding bytes fitting
       written-met n e size done =
           let exact = ap length same in
-          meets-written (accepted bytes) out bytes refl (omega (arith, exact, fitting.asked.fits)) n e (size fitting ∙ exact)
+          meets-written (Ok bytes) out bytes refl (omega (arith, exact, fitting.asked.fits)) n e (size fitting ∙ exact)
           (done fitting ∙ ap (write out 0) same)
 
 -- a program within the limits, with the rules that sheets append to it, by its bytes, and a set of the form's: their quotient can be written
 pub dividing : (F : Limits) → Sized F → (t : List ℕ) (p : Program) → t ≡ encoded_program p → Expanded F p
-    → (k : List ℕ) (ls : List Literal) → parsed_set F F.literals k ≡ accepted ls → (n : ℕ) → n ≡ length ls → Dividing t k n
+    → (k : List ℕ) (ls : List Literal) → parsed_set F F.literals k ≡ Ok ls → (n : ℕ) → n ≡ length ls → Dividing t k n
 dividing F ok t p same e k ls held n counted =
     record {
       program = record { program = p; bytes = same; asked = omega (arith, expanded-few F p e, ok.rules) };
@@ -112,18 +110,18 @@ dividing F ok t p same e k ls held n counted =
 
 module _ (F : Limits) (s k out : List ℕ) where
   -- the program or the set is refused
-  pub refused-met : (x : Refusal) → both_read F F.literals s k ≡ Both.Refused x → Meets (quotiented F s k out) (Refused x) out
+  pub refused-met : (x : Refusal) → both_read F F.literals s k ≡ Err x → Meets (quotiented F s k out) (Err x) out
   unfolding quotiented quotient_bytes
   refused-met x e =
-      meets-refused (quotient_bytes F s k) out x (inputs-refused F F.literals s k (λ p ls. accepted (encoded_program (quotient_program p ls))) x e)
+      meets-refused (quotient_bytes F s k) out x (inputs-refused F F.literals s k (λ p ls. Ok (encoded_program (quotient_program p ls))) x e)
 
   -- the quotient of the program that is meant is the outcome, wherever it was made
-  pub quotient-met : (p : Program) (ls : List Literal) → parsed F s ≡ accepted p → parsed_set F F.literals k ≡ accepted ls
-      → {r : Written} {e : List ℕ} → Meets (delivered_quotient p ls out) r e → Meets (quotiented F s k out) r e
+  pub quotient-met : (p : Program) (ls : List Literal) → parsed F s ≡ Ok p → parsed_set F F.literals k ≡ Ok ls
+      → {r : Answer ℕ} {e : List ℕ} → Meets (delivered_quotient p ls out) r e → Meets (quotiented F s k out) r e
   unfolding quotiented quotient_bytes
   quotient-met p ls read held {r} {e} m =
-      subst (λ (q : Result (List ℕ)). Meets (delivered q out) r e)
-      (sym (inputs-given F F.literals s k (λ p ls. accepted (encoded_program (quotient_program p ls))) p read ls held)) m
+      subst (λ (q : Answer (List ℕ)). Meets (delivered q out) r e)
+      (sym (inputs-given F F.literals s k (λ p ls. Ok (encoded_program (quotient_program p ls))) p read ls held)) m
 
   -- both were read, and a slice t has the records of the program that is meant
   module _ (ok : Sized F) {h : Held} {c : ℕ} (w : Inputs F F.literals s k h c) (program-bytes : Bytes s) where
@@ -131,7 +129,7 @@ module _ (F : Limits) (s k out : List ℕ) where
     read-dividing t same =
         dividing F ok t (expanded w.file) same (items-expanded F s w.file program-bytes w.holds) k w.literals w.members c w.counted
 
-    pub read-met : (t : List ℕ) → t ≡ encoded_program (expanded w.file) → {r : Written} {e : List ℕ}
+    pub read-met : (t : List ℕ) → t ≡ encoded_program (expanded w.file) → {r : Answer ℕ} {e : List ℕ}
         → ((v : Dividing t k c) → Meets (delivered_quotient v.program.program v.literals out) r e) → Meets (quotiented F s k out) r e
     unfolding read-dividing dividing
     read-met t same m = quotient-met (expanded w.file) w.literals (items-parsed F s w.file w.holds) w.members (m (read-dividing t same))
@@ -151,16 +149,16 @@ module _ (F : Limits) (s k out : List ℕ) where
             counted = w.counted;
           }
 
-      pub file-met : {r : Written} {e : List ℕ}
+      pub file-met : {r : Answer ℕ} {e : List ℕ}
           → ((v : DividingFile normal_bytes s k c) → Meets (delivered_quotient (expanded v.file.items) v.literals out) r e) → Meets (quotiented F s k out) r e
       unfolding file-dividing file-means
       file-met m = quotient-met (expanded w.file) w.literals (items-parsed F s w.file w.holds) w.members (m file-dividing)
 
--- more bytes are enough too
-unfoldable pub dividing-wider : {most room : ℕ} {s k : List ℕ} {c : ℕ} → DividingFile most s k c → most ≤ room → DividingFile room s k c
-dividing-wider w more =
+-- the program that is meant can be divided
+unfoldable pub normal-dividing : {s k t : List ℕ} {c : ℕ} → DividingFile normal_bytes s k c → NormalOf s t → Dividing t k c
+normal-dividing w is =
     record {
-      file = means-wider w.file more;
+      program = normal-of w.file is;
       form = w.form;
       upto = w.upto;
       literals = w.literals;
@@ -168,30 +166,8 @@ dividing-wider w more =
       counted = w.counted;
     }
 
--- a normal form holds the program that is meant
-module _ {most : ℕ} {s k : List ℕ} {c : ℕ} (w : DividingFile most s k c) {d e : List ℕ} {n : ℕ}
-    (made : (v : HoldsFile (Expandable most) s) → Normal d v.items n e) where
-  unfoldable pub normal-dividing : Dividing (take n e) k c
-  normal-dividing =
-      record {
-        program = normal-holds w.file made;
-        form = w.form;
-        upto = w.upto;
-        literals = w.literals;
-        members = w.members;
-        counted = w.counted;
-      }
-
--- what is given and what is answered, where it is known whether there are sheets
-pub given-as : {a b : Bool} (s k : List ℕ) (n : ℕ) → a ≡ b → Given a s k n → Given b s k n
-given-as s k n e w = subst (λ (x : Bool). Given x s k n) e w
-
-pub answered-as : {a b : Bool} (s k : List ℕ) (n : ℕ) (out : List ℕ) (r : Written) (end : List ℕ) → a ≡ b → Answered b s k n out r end
-    → Answered a s k n out r end
-answered-as s k n out r end e m = subst (λ (x : Bool). Answered x s k n out r end) (sym e) m
-
 -- the same limits have the same outcome
-pub met-same : (F G : Limits) (s k out : List ℕ) {r : Written} {e : List ℕ} → F ≡ G → Meets (quotiented F s k out) r e → Meets (quotiented G s k out) r e
+pub met-same : (F G : Limits) (s k out : List ℕ) {r : Answer ℕ} {e : List ℕ} → F ≡ G → Meets (quotiented F s k out) r e → Meets (quotiented G s k out) r e
 met-same F G s k out {r} {e} same m = subst (λ (H : Limits). Meets (quotiented H s k out) r e) same m
 
 -- the two forms' figures fit two bytes each

@@ -1,12 +1,13 @@
 -- Laws of the options that are left of a record, one by one.
 -- In order: one option; the first and those behind it; how many; none. Assumes nothing.
-use Prim.Native.Nat.{ℕ, ◌+◌, ◌-◌, ◌≤◌, ◌<◌}
+use Prim.Native.Nat.{ℕ, ◌+◌, ◌-◌, ◌*◌, ◌≤◌, ◌<◌}
 use native.Mathlib.Omega.{arith}
-use mathlib.Core.Path.{◌≡◌, ◌∙◌, ap}
+use mathlib.Core.Path.{◌≡◌, ◌∙◌, ap, ap₂}
 use mathlib.Core.Bool.{true, false}
 use mathlib.Core.List.{List, [], ◌∷◌, ◌++◌}
 use lib.ListN.{length, length-append}
 use Rattle.literal.specs.declared.SignedAtom.{SignedAtom}
+use Rattle.literal.specs.declared.Literal.{Literal}
 use Rattle.literal.specs.declared.Literal.TheVariants.{Signed, Defeated}
 use Rattle.semantics.specs.Meaning.{undefeated}
 use Rattle.semantics.proofs.Laws.Meaning.{undefeated-cons, undefeated-few}
@@ -32,6 +33,27 @@ module _ (t k : List ℕ) (m : ℕ) where
   left-first at n h =
       ap (λ (os : List SignedAtom). undefeated (tag_at t) os (key_set k m)) (options-first t at n h)
       ∙ undefeated-cons (tag_at t) (option_at t at) (options_at t (at + 5) (n - 1)) (key_set k m)
+
+  -- number i of n is defeated, or left: then those behind it
+  module _ (from n i : ℕ) (l : i < n) where
+    behind : (ls : List Literal) → ls ++ left_at t k m (from + 5 * i + 5) (n - i - 1) ≡ ls ++ left_at t k m (from + 5 * (i + 1)) (n - (i + 1))
+    behind ls = ap₂ (λ (at j : ℕ). ls ++ left_at t k m at j) (omega arith) (omega arith)
+
+    pub left-passed : key_set k m (Defeated (tag_at t) (option_at t (from + 5 * i))) ≡ true
+        → left_at t k m (from + 5 * i) (n - i) ≡ left_at t k m (from + 5 * (i + 1)) (n - (i + 1))
+    left-passed e =
+        left-first (from + 5 * i) (n - i) (omega arith)
+        ∙ ap (λ ls. ls ++ left_at t k m (from + 5 * i + 5) (n - i - 1)) (left-defeated (from + 5 * i) e) ∙ behind []
+
+    pub left-taken : key_set k m (Defeated (tag_at t) (option_at t (from + 5 * i))) ≡ false
+        → left_at t k m (from + 5 * i) (n - i) ≡ Signed (option_at t (from + 5 * i)) ∷ left_at t k m (from + 5 * (i + 1)) (n - (i + 1))
+    left-taken e =
+        left-first (from + 5 * i) (n - i) (omega arith)
+        ∙ ap (λ ls. ls ++ left_at t k m (from + 5 * i + 5) (n - i - 1)) (left-kept (from + 5 * i) e) ∙ behind (Signed (option_at t (from + 5 * i)) ∷ [])
+
+  -- before the first
+  pub left-all : (from n : ℕ) → left_at t k m from n ≡ left_at t k m (from + 5 * 0) (n - 0)
+  left-all from n = ap₂ (λ (at j : ℕ). left_at t k m at j) (omega arith) (omega arith)
 
   -- as many
   pub left-count : (at n : ℕ) → 0 < n → length (left_at t k m at n) ≡ length (left_at t k m at 1) + length (left_at t k m (at + 5) (n - 1))

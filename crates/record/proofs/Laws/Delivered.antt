@@ -2,6 +2,7 @@
 -- each.
 -- Assumes nothing.
 use Prim.Native.Nat.{ℕ, ◌≤◌, ◌<◌}
+use Rattle.std.specs.Prelude.{Ok, Err}
 use native.Mathlib.Omega.{arith}
 use mathlib.Core.Path.{◌≡◌, refl, sym, ◌∙◌, ap, subst}
 use mathlib.Core.Bool.{Bool, true, false}
@@ -12,14 +13,13 @@ use borrow.Author.Tests.{le-ltb, lt-ltb}
 use Rattle.buffer.specs.Write.{write}
 use Rattle.record.specs.declared.Reason.TheVariants.{OutputShort}
 use Rattle.record.specs.declared.Refusal.{Refusal}
-use Rattle.record.specs.declared.Written.TheVariants.{Length, Refused}
 use Rattle.record.specs.Refusal.{refusal}
-use Rattle.record.specs.Result.{Result, accepted, refused, Outcome, delivered}
+use Rattle.record.specs.Result.{Answer, Outcome, delivered}
 use Rattle.record.specs.Meets.{Meets}
 use Rattle.record.proofs.Laws.Places.{Placed}
 
 -- a refusal leaves the buffer as it came
-pub delivered-refused : (x : Refusal) (out : List ℕ) → delivered (refused x) out ≡ record { answer = Refused x; buffer = out }
+pub delivered-refused : (x : Refusal) (out : List ℕ) → delivered (Err x) out ≡ record { answer = Err x; buffer = out }
 unfolding delivered
 delivered-refused x out = refl
 
@@ -27,48 +27,48 @@ module _ (bs out : List ℕ) where
   choose : Bool → Outcome
   choose b =
       elim b [
-        | true ↦ record { answer = Refused (refusal OutputShort 0); buffer = out }
-        | false ↦ record { answer = Length (length bs); buffer = write out 0 bs }
+        | true ↦ record { answer = Err (refusal OutputShort 0); buffer = out }
+        | false ↦ record { answer = Ok (length bs); buffer = write out 0 bs }
       ]
 
   -- a buffer that is long enough holds the result at its start
-  pub delivered-fits : length bs ≤ length out → delivered (accepted bs) out ≡ record { answer = Length (length bs); buffer = write out 0 bs }
+  pub delivered-fits : length bs ≤ length out → delivered (Ok bs) out ≡ record { answer = Ok (length bs); buffer = write out 0 bs }
   unfolding delivered choose
   delivered-fits h = ap choose (le-ltb (length out) (length bs) h)
 
   -- 9: one that is shorter is left as it came
-  pub delivered-short : length out < length bs → delivered (accepted bs) out ≡ record { answer = Refused (refusal OutputShort 0); buffer = out }
+  pub delivered-short : length out < length bs → delivered (Ok bs) out ≡ record { answer = Err (refusal OutputShort 0); buffer = out }
   unfolding delivered choose
   delivered-short h = ap choose (lt-ltb (length out) (length bs) h)
 
   -- a refusal of what is long enough, or not, lies at the start
-  chosen-place : (b : Bool) (x : Refusal) → (choose b).answer ≡ Refused x → x.place ≡ 0
+  chosen-place : (b : Bool) (x : Refusal) → (choose b).answer ≡ Err x → x.place ≡ 0
   unfolding choose
   chosen-place true x e = let same : refusal OutputShort 0 ≡ x = cc in sym (ap (λ (y : Refusal). y.place) same)
   chosen-place false x e = let z : ◌≡◌ {A = ℕ} 0 1 = cc in absurd (omega arith)
 
 -- where what is delivered is refused within k bytes, so is the outcome
-pub delivered-place : (k : ℕ) (q : Result (List ℕ)) (out : List ℕ) → Placed k q → (x : Refusal) → (delivered q out).answer ≡ Refused x → x.place ≤ k
+pub delivered-place : (k : ℕ) (q : Answer (List ℕ)) (out : List ℕ) → Placed k q → (x : Refusal) → (delivered q out).answer ≡ Err x → x.place ≤ k
 unfolding delivered choose
-delivered-place k (refused y) out p x e = let same : y ≡ x = cc in subst (λ (z : Refusal). z.place ≤ k) same p
-delivered-place k (accepted bs) out p x e = omega (arith, chosen-place bs out (ltb (length out) (length bs)) x e)
+delivered-place k (Err y) out p x e = let same : y ≡ x = cc in subst (λ (z : Refusal). z.place ≤ k) same p
+delivered-place k (Ok bs) out p x e = omega (arith, chosen-place bs out (ltb (length out) (length bs)) x e)
 
 -- an answer and a buffer that are an outcome's meet it
 meets : {o q : Outcome} → o ≡ q → Meets o q.answer q.buffer
 meets e = record { answer = ap (λ (w : Outcome). w.answer) (sym e); buffer = ap (λ (w : Outcome). w.buffer) (sym e) }
 
-module _ (q : Result (List ℕ)) (out : List ℕ) where
+module _ (q : Answer (List ℕ)) (out : List ℕ) where
   -- a refusal is answered, and the buffer stays
-  pub meets-refused : (x : Refusal) → q ≡ refused x → Meets (delivered q out) (Refused x) out
-  meets-refused x e = meets (ap (λ (w : Result (List ℕ)). delivered w out) e ∙ delivered-refused x out)
+  pub meets-refused : (x : Refusal) → q ≡ Err x → Meets (delivered q out) (Err x) out
+  meets-refused x e = meets (ap (λ (w : Answer (List ℕ)). delivered w out) e ∙ delivered-refused x out)
 
-  module _ (bs : List ℕ) (e : q ≡ accepted bs) where
+  module _ (bs : List ℕ) (e : q ≡ Ok bs) where
     -- 9 is answered for a shorter buffer, which stays
-    pub meets-short : length out < length bs → Meets (delivered q out) (Refused (refusal OutputShort 0)) out
-    meets-short h = meets (ap (λ (w : Result (List ℕ)). delivered w out) e ∙ delivered-short bs out h)
+    pub meets-short : length out < length bs → Meets (delivered q out) (Err (refusal OutputShort 0)) out
+    meets-short h = meets (ap (λ (w : Answer (List ℕ)). delivered w out) e ∙ delivered-short bs out h)
 
     -- the result's length is answered for one that is long enough, and the result stands at its start
-    pub meets-written : length bs ≤ length out → (n : ℕ) (d : List ℕ) → n ≡ length bs → d ≡ write out 0 bs → Meets (delivered q out) (Length n) d
+    pub meets-written : length bs ≤ length out → (n : ℕ) (d : List ℕ) → n ≡ length bs → d ≡ write out 0 bs → Meets (delivered q out) (Ok n) d
     meets-written h n d long done =
-        let m = meets (ap (λ (w : Result (List ℕ)). delivered w out) e ∙ delivered-fits bs out h) in
-        record { answer = ap Length long ∙ m.answer; buffer = done ∙ m.buffer }
+        let m = meets (ap (λ (w : Answer (List ℕ)). delivered w out) e ∙ delivered-fits bs out h) in
+        record { answer = ap Ok long ∙ m.answer; buffer = done ∙ m.buffer }

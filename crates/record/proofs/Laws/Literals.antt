@@ -1,5 +1,6 @@
 -- Reading a run of literals, one step each. Assumes nothing.
 use Prim.Native.Nat.{ℕ, zero, suc, ◌+◌, ◌-◌, ◌≤◌, ◌<◌}
+use Rattle.std.specs.Prelude.{Ok, Err}
 use native.Mathlib.Omega.{arith}
 use mathlib.Core.Path.{◌≡◌, refl, ◌∙◌, ap}
 use mathlib.Core.List.{List, ◌∷◌}
@@ -12,21 +13,20 @@ use Rattle.literal.specs.Literal.{Decoded}
 use Rattle.literal.specs.Literal.{Valid, Wrong}
 use Rattle.literal.specs.Literal.{decoded}
 use Rattle.record.specs.declared.Reason.TheVariants.{LiteralWrong}
-use Rattle.record.specs.declared.Run.{Run}
 use Rattle.record.specs.Refusal.{refusal}
-use Rattle.record.specs.Result.{Result, accepted, refused, and_then}
+use Rattle.record.specs.Result.{Answer, and_then}
 use Rattle.record.specs.Reading.{literals_at}
 use Rattle.record.specs.Code.{run_of, signed_kinds}
 
 -- a literal more before a run
-pub run-and-then : (r : Result (List Literal)) (l : Literal) → run_of (and_then r (λ ls. accepted (l ∷ ls))) ≡ run_of r
+pub run-and-then : (r : Answer (List Literal)) (l : Literal) → run_of (and_then r (λ ls. Ok (l ∷ ls))) ≡ run_of r
 unfolding run_of and_then
-run-and-then (accepted ls) l = refl
-run-and-then (refused x) l = refl
+run-and-then (Ok ls) l = refl
+run-and-then (Err x) l = refl
 
 module _ (F : Limits) (t : List ℕ) (at : ℕ) where
-  step : (n : ℕ) → Decoded → Result (List Literal)
-  step n d = elim d [ Valid l ↦ and_then (literals_at F t (at + 5) n) (λ ls. accepted (l ∷ ls)) | Wrong ↦ refused (refusal LiteralWrong at) ]
+  step : (n : ℕ) → Decoded → Answer (List Literal)
+  step n d = elim d [ Valid l ↦ and_then (literals_at F t (at + 5) n) (λ ls. Ok (l ∷ ls)) | Wrong ↦ Err (refusal LiteralWrong at) ]
 
   -- a right literal leaves the rest of the run
   pub run-valid : (n : ℕ) (l : Literal) → 0 < n → decoded F (drop at t) ≡ Valid l → run_of (literals_at F t at n) ≡ run_of (literals_at F t (at + 5) (n - 1))
@@ -39,12 +39,12 @@ module _ (F : Limits) (t : List ℕ) (at : ℕ) where
       back = omega arith
 
   -- a wrong one ends it there
-  pub run-wrong : (n : ℕ) → 0 < n → decoded F (drop at t) ≡ Wrong → run_of (literals_at F t at n) ≡ Run.Refused (refusal LiteralWrong at)
+  pub run-wrong : (n : ℕ) → 0 < n → decoded F (drop at t) ≡ Wrong → run_of (literals_at F t at n) ≡ Err (refusal LiteralWrong at)
   unfolding literals_at step run_of
   run-wrong zero h e = absurd (omega arith)
   run-wrong (suc n) h e = ap (λ d. run_of (step n d)) e
 
-  pub run-nil : (n : ℕ) → n ≤ 0 → run_of (literals_at F t at n) ≡ Run.Right
+  pub run-nil : (n : ℕ) → n ≤ 0 → run_of (literals_at F t at n) ≡ Ok tt
   unfolding literals_at run_of
   run-nil zero h = refl
   run-nil (suc n) h = absurd (omega arith)

@@ -3,6 +3,7 @@
 -- bytes; the place of a refusal; the record of a rule within the limits.
 -- Assumes nothing.
 use Prim.Native.Nat.{ℕ, ◌+◌, ◌*◌, ◌≤◌, ◌<◌}
+use Rattle.std.specs.Prelude.{Ok, Err}
 use native.Mathlib.Omega.{arith}
 use mathlib.Core.Path.{◌≡◌, refl, sym, ◌∙◌, ap, subst}
 use mathlib.Core.Bool.{Bool, true, false, not, ◌&&◌, true≢false}
@@ -22,58 +23,95 @@ use Rattle.semantics.proofs.Laws.Tests.{first, second, along}
 use Rattle.semantics.proofs.Laws.Form.{kept}
 use Rattle.record.specs.declared.Reason.TheVariants.{MarkCut, MarkWrong}
 use Rattle.record.specs.declared.Refusal.{Refusal}
-use Rattle.record.specs.declared.Written.{Written}
+use Rattle.record.specs.declared.Step.{Step}
 use Rattle.record.specs.Header.{head_count, positive_count, naf_count}
 use Rattle.record.specs.Refusal.{refusal}
-use Rattle.record.specs.Result.{Result, accepted, refused, and_then}
+use Rattle.record.specs.Result.{Answer, and_then}
 use Rattle.record.specs.Layout.{encoded_rule, encoded_end, encoded_item}
 use Rattle.record.specs.Reading.{Mark, RuleMark, OverrideMark, OppositionMark, EndMark, NoMark, Entry, item, end, literals_at, rule_of, body_at, rule_at, mark_at, marked_record, record_at, is_rule, rules_held, entry_size, rule_only}
-use Rattle.record.specs.Code.{step_of, size_of, step_size}
-use Rattle.record.proofs.Laws.Result.{accepted-eq, and-then-accepted, accepted-and-then, refuse-if-accepted, refuse-if-false, refuse-if-true}
+use Rattle.record.specs.Code.{step_of}
+use Rattle.record.proofs.Laws.Result.{accepted-eq, refused-accepted, and-then-accepted, accepted-and-then, refuse-if-accepted, refuse-if-false, refuse-if-true}
 use Rattle.record.proofs.Laws.Layout.{length-encoded-rule}
 use Rattle.record.proofs.Laws.Places.{Placed, refuse-if-placed, and-then-placed, literals-placed, rule-of-placed}
 use Rattle.record.proofs.Laws.Sound.{EntryItem, record-sound}
 use Rattle.record.proofs.Laws.Complete.{record-complete, strict-mark, defeasible-mark}
 
 -- an entry's size, by the step that it comes to
-step-sized : (e : Result Entry) → size_of (and_then e entry_size) ≡ step_size (step_of e)
-unfolding size_of and_then entry_size step_size step_of
-step-sized (accepted (item (rule r) size)) = refl
-step-sized (accepted (item (override o) size)) = refl
-step-sized (accepted (item (opposition x) size)) = refl
-step-sized (accepted end) = refl
-step-sized (refused x) = refl
+step_size : Step → Answer ℕ
+step_size (Step.Rule size) = Ok size
+step_size (Step.Override size) = Ok size
+step_size (Step.Opposition size) = Ok size
+step_size Step.End = Err (refusal MarkWrong 0)
 
--- what a length, or a refusal, was answered of
-pub size-accepted : (r : Result ℕ) (size : ℕ) → size_of r ≡ Written.Length size → r ≡ accepted size
-unfolding size_of
-size-accepted (accepted n) size e = let same : n ≡ size = cc in ap accepted same
-size-accepted (refused x) size e = let z : ◌≡◌ {A = ℕ} 0 1 = cc in absurd (omega arith)
+step-sized : (e : Answer Entry) → and_then e entry_size ≡ and_then (step_of e) step_size
+unfolding and_then entry_size step_size step_of
+step-sized (Ok (item (rule r) size)) = refl
+step-sized (Ok (item (override o) size)) = refl
+step-sized (Ok (item (opposition x) size)) = refl
+step-sized (Ok end) = refl
+step-sized (Err x) = refl
 
-pub size-refused : (r : Result ℕ) (x : Refusal) → size_of r ≡ Written.Refused x → r ≡ refused x
-unfolding size_of
-size-refused (accepted n) x e = let z : ◌≡◌ {A = ℕ} 0 1 = cc in absurd (omega arith)
-size-refused (refused y) x e = let same : y ≡ x = cc in ap refused same
+-- records that come to the same step are as long
+pub same-size : (e f : Answer Entry) → step_of e ≡ step_of f → and_then e entry_size ≡ and_then f entry_size
+same-size e f p = step-sized e ∙ ap (λ (r : Answer Step). and_then r step_size) p ∙ sym (step-sized f)
+
+-- the size of a record that comes to this step
+pub rule_sized : (e : Answer Entry) (size : ℕ) → step_of e ≡ Ok (Step.Rule size) → and_then e entry_size ≡ Ok size
+unfolding and_then step_size
+rule_sized e size p = step-sized e ∙ ap (λ (r : Answer Step). and_then r step_size) p
+
+pub end-sized : (e : Answer Entry) → step_of e ≡ Ok Step.End → and_then e entry_size ≡ Err (refusal MarkWrong 0)
+unfolding and_then step_size
+end-sized e p = step-sized e ∙ ap (λ (r : Answer Step). and_then r step_size) p
+
+pub refused-sized : (e : Answer Entry) (x : Refusal) → step_of e ≡ Err x → and_then e entry_size ≡ Err x
+unfolding and_then
+refused-sized e x p = step-sized e ∙ ap (λ (r : Answer Step). and_then r step_size) p
+
+-- the body of a rule's record is a rule, as long as it says, or refused
+module _ (F : Limits) (d : Bool) (t : List ℕ) (h b c : ℕ) where
+  body-entry : (e : Entry) → body_at F d t h b c ≡ Ok e → (r : Rule) × (e ≡ item (rule r) (7 + 5 * (h + b + c)))
+  unfolding body_at
+  body-entry e p =
+      let q1 = refuse-if-accepted _ _ _ e p in
+      let q2 = and-then-accepted (literals_at F t 7 (h + b + c)) _ e q1.1 in
+      let q3 = and-then-accepted (rule_of d (number_at t 2) h b q2.0) _ e q2.2 in
+      (q3.0, sym (accepted-eq q3.2))
+
+  pub body-ruled : (size : ℕ) → and_then (body_at F d t h b c) entry_size ≡ Ok size → step_of (body_at F d t h b c) ≡ Ok (Step.Rule size)
+  unfolding entry_size step_of
+  body-ruled size p =
+      let w = and-then-accepted (body_at F d t h b c) entry_size size p in
+      let r = body-entry w.0 w.1 in
+      let same = accepted-eq (ap entry_size (sym r.1) ∙ w.2) in
+      ap step_of (w.1 ∙ ap (λ (e : Entry). Ok e) r.1) ∙ ap (λ (n : ℕ). Ok (Step.Rule n)) same
+
+  pub body_refused : (x : Refusal) → and_then (body_at F d t h b c) entry_size ≡ Err x → step_of (body_at F d t h b c) ≡ Err x
+  unfolding and_then entry_size step_of
+  body_refused x p = go (body_at F d t h b c) refl p
+    where
+      go : (q : Answer Entry) → body_at F d t h b c ≡ q → and_then q entry_size ≡ Err x → step_of q ≡ Err x
+      go (Ok e) at p =
+          let r = body-entry e at in
+          absurd (refused-accepted (sym p ∙ ap entry_size r.1))
+      go (Err y) at p = let same : y ≡ x = cc in ap Err same
 
 module _ (F : Limits) (n : ℕ) (t : List ℕ) where
   -- 2: fewer than two bytes
-  pub only-cut : length t < 2 → rule_only F n t ≡ refused (refusal MarkCut 0)
+  pub only-cut : length t < 2 → rule_only F n t ≡ Err (refusal MarkCut 0)
   unfolding rule_only
   only-cut k = refuse-if-true _ _ _ (lt-ltb (length t) 2 k)
 
   module _ (whole : 2 ≤ length t) where
     -- 3: the mark is no rule's
-    pub only-wrong : is_rule (mark_at F t) ≡ false → rule_only F n t ≡ refused (refusal MarkWrong 0)
+    pub only-wrong : is_rule (mark_at F t) ≡ false → rule_only F n t ≡ Err (refusal MarkWrong 0)
     unfolding rule_only
     only-wrong e = refuse-if-false _ _ _ (le-ltb (length t) 2 whole) ∙ refuse-if-true _ _ _ (ap not e)
 
     -- a rule's mark: what the record is read as
-    only-ruled : is_rule (mark_at F t) ≡ true → rule_only F n t ≡ and_then (record_at F (rules_held n) t) entry_size
+    pub only_step : is_rule (mark_at F t) ≡ true → rule_only F n t ≡ and_then (record_at F (rules_held n) t) entry_size
     unfolding rule_only
-    only-ruled e = refuse-if-false _ _ _ (le-ltb (length t) 2 whole) ∙ refuse-if-false _ _ _ (ap not e)
-
-    pub only_step : is_rule (mark_at F t) ≡ true → size_of (rule_only F n t) ≡ step_size (step_of (record_at F (rules_held n) t))
-    only_step e = ap size_of (only-ruled e) ∙ step-sized (record_at F (rules_held n) t)
+    only_step e = refuse-if-false _ _ _ (le-ltb (length t) 2 whole) ∙ refuse-if-false _ _ _ (ap not e)
 
 -- an accepted record, where n rules are held: its mark, header and length, and the rule that reading makes of it
 pub record Added (F : Limits) (n : ℕ) (t : List ℕ) (size : ℕ) : Type 0 where
@@ -82,14 +120,14 @@ pub record Added (F : Limits) (n : ℕ) (t : List ℕ) (size : ℕ) : Type 0 whe
   pub room : n < F.rules
   pub counts : T (keeps_counts F (head_count t) (positive_count t) (naf_count t))
   pub rule-of : Rule
-  pub read : record_at F (rules_held n) t ≡ accepted (item (rule rule-of) size)
+  pub read : record_at F (rules_held n) t ≡ Ok (item (rule rule-of) size)
 
-size-eq : (i : Item) (m size : ℕ) → entry_size (item i m) ≡ accepted size → m ≡ size
+size-eq : (i : Item) (m size : ℕ) → entry_size (item i m) ≡ Ok size → m ≡ size
 unfolding entry_size
 size-eq i m size e = accepted-eq e
 
 module _ (F : Limits) (n : ℕ) (t : List ℕ) (size : ℕ) where
-  rule-added : (d : Bool) (e : Entry) → rule_at F d n t ≡ accepted e → record_at F (rules_held n) t ≡ accepted e → entry_size e ≡ accepted size → Added F n t size
+  rule-added : (d : Bool) (e : Entry) → rule_at F d n t ≡ Ok e → record_at F (rules_held n) t ≡ Ok e → entry_size e ≡ Ok size → Added F n t size
   unfolding rule_at body_at
   rule-added d e q read sizes =
       let a = head_count t in
@@ -111,10 +149,10 @@ module _ (F : Limits) (n : ℕ) (t : List ℕ) (size : ℕ) where
         room = leb-false F.rules n q2.0;
         counts = along (sym (not-false (keeps_counts F a b c) q4.0)) tt;
         rule-of = q7.0;
-        read = read ∙ ap accepted (sym same) ∙ ap (λ (k : ℕ). accepted (item (rule q7.0) k)) long;
+        read = read ∙ ap Ok (sym same) ∙ ap (λ (k : ℕ). Ok (item (rule q7.0) k)) long;
       }
 
-  pub only-added : rule_only F n t ≡ accepted size → Added F n t size
+  pub only-added : rule_only F n t ≡ Ok size → Added F n t size
   unfolding rule_only is_rule record_at marked_record
   only-added q =
       let q1 = refuse-if-accepted _ _ _ size q in
@@ -122,8 +160,8 @@ module _ (F : Limits) (n : ℕ) (t : List ℕ) (size : ℕ) where
       let q3 = and-then-accepted (record_at F (rules_held n) t) entry_size size q2.1 in
       go (mark_at F t) q3.0 (not-false (is_rule (mark_at F t)) q2.0) (refuse-if-accepted _ _ _ q3.0 q3.1).1 q3.1 q3.2
     where
-      go : (m : Mark) (e : Entry) → is_rule m ≡ true → marked_record F m (rules_held n) t ≡ accepted e → record_at F (rules_held n) t ≡ accepted e
-          → entry_size e ≡ accepted size → Added F n t size
+      go : (m : Mark) (e : Entry) → is_rule m ≡ true → marked_record F m (rules_held n) t ≡ Ok e → record_at F (rules_held n) t ≡ Ok e
+          → entry_size e ≡ Ok size → Added F n t size
       go (RuleMark d) e x y z w = rule-added d e y z w
       go OverrideMark e x y z w = absurd (true≢false (sym x))
       go OppositionMark e x y z w = absurd (true≢false (sym x))
@@ -215,10 +253,10 @@ module _ (F : Limits) (rest : List ℕ) where
   seven (strict h b c) = omega (arith, length-append (encoded_rule (strict h b c)) rest, length-encoded-rule (strict h b c))
   seven (defeasible t h b c) = omega (arith, length-append (encoded_rule (defeasible t h b c)) rest, length-encoded-rule (defeasible t h b c))
 
-  pub only-complete : (n : ℕ) (r : Rule) → T (keeps_rule F r) → n < F.rules → rule_only F n (encoded_rule r ++ rest) ≡ accepted (record_length r)
+  pub only-complete : (n : ℕ) (r : Rule) → T (keeps_rule F r) → n < F.rules → rule_only F n (encoded_rule r ++ rest) ≡ Ok (record_length r)
   unfolding rule_only entry_size
   only-complete n r k room =
       refuse-if-false _ _ _ (le-ltb (length (encoded_rule r ++ rest)) 2 (omega (arith, seven r)))
       ∙ refuse-if-false _ _ _ (ap not (rule-mark r k))
-      ∙ ap (λ (e : Result Entry). and_then e entry_size) (record-complete F r (rules_held n) rest k room)
+      ∙ ap (λ (e : Answer Entry). and_then e entry_size) (record-complete F r (rules_held n) rest k room)
       ∙ accepted-and-then (item (rule r) (record_length r)) entry_size

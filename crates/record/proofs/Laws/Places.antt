@@ -1,5 +1,6 @@
 -- A refusal met in a record has its place within the record's part. Assumes nothing.
 use Prim.Native.Nat.{ℕ, zero, suc, ◌+◌, ◌*◌, ◌≤◌}
+use Rattle.std.specs.Prelude.{Ok, Err}
 use native.Mathlib.Omega.{arith}
 use mathlib.Core.Path.{◌≡◌, refl, subst}
 use mathlib.Core.Bool.{Bool, true, false}
@@ -20,39 +21,38 @@ use Rattle.record.specs.declared.Reason.TheVariants.{LiteralWrong, HeadWrong}
 use Rattle.record.specs.declared.Refusal.{Refusal}
 use Rattle.record.specs.declared.Step.{Step}
 use Rattle.record.specs.declared.Held.{Held}
-use Rattle.record.specs.declared.Found.{Found}
 use Rattle.record.specs.Header.{head_count, positive_count, naf_count}
 use Rattle.record.specs.Refusal.{refusal}
-use Rattle.record.specs.Result.{Result, accepted, refused, and_then, refuse_if}
+use Rattle.record.specs.Result.{Answer, and_then, refuse_if}
 use Rattle.record.specs.Reading.{Mark, RuleMark, OverrideMark, OppositionMark, EndMark, NoMark, literals_at, options_of, defeasible_rule, rule_of, body_at, rule_at, override_at, signed_of, signed_at, opposition_of, opposition_at, end_at, mark_at, marked_record, record_at}
 use Rattle.record.specs.Code.{step_of, found_of}
 use Rattle.record.proofs.Laws.Program.{step-refused, found-refused}
 
 -- a refusal's place is at most k
-abbrev pub Placed : {A : Type 0} → ℕ → Result A → Type 0
-Placed k (accepted a) = Unit
-Placed k (refused x) = x.place ≤ k
+abbrev pub Placed : {A : Type 0} → ℕ → Answer A → Type 0
+Placed k (Ok a) = Unit
+Placed k (Err x) = x.place ≤ k
 
-pub refuse-if-placed : {A : Type 0} (k : ℕ) (b : Bool) (x : Refusal) (r : Result A) → x.place ≤ k → (b ≡ false → Placed k r) → Placed k (refuse_if b x r)
+pub refuse-if-placed : {A : Type 0} (k : ℕ) (b : Bool) (x : Refusal) (r : Answer A) → x.place ≤ k → (b ≡ false → Placed k r) → Placed k (refuse_if b x r)
 unfolding refuse_if
 refuse-if-placed k true x r h f = h
 refuse-if-placed k false x r h f = f refl
 
-pub and-then-placed : {A B : Type 0} (k : ℕ) (r : Result A) (f : A → Result B) → Placed k r → ((a : A) → Placed k (f a)) → Placed k (and_then r f)
+pub and-then-placed : {A B : Type 0} (k : ℕ) (r : Answer A) (f : A → Answer B) → Placed k r → ((a : A) → Placed k (f a)) → Placed k (and_then r f)
 unfolding and_then
-and-then-placed k (accepted a) f p g = g a
-and-then-placed k (refused x) f p g = p
+and-then-placed k (Ok a) f p g = g a
+and-then-placed k (Err x) f p g = p
 
 pub literals-placed : (F : Limits) (t : List ℕ) (k n at : ℕ) → at + 5 * n ≤ k → Placed k (literals_at F t at n)
 unfolding literals_at
 literals-placed F t k zero at h = tt
 literals-placed F t k (suc n) at h = go (decoded F (drop at t)) (literals-placed F t k n (at + 5) (omega arith))
   where
-    step : Decoded → Result (List Literal)
-    step d = elim d [ Valid l ↦ and_then (literals_at F t (at + 5) n) (λ ls. accepted (l ∷ ls)) | Wrong ↦ refused (refusal LiteralWrong at) ]
+    step : Decoded → Answer (List Literal)
+    step d = elim d [ Valid l ↦ and_then (literals_at F t (at + 5) n) (λ ls. Ok (l ∷ ls)) | Wrong ↦ Err (refusal LiteralWrong at) ]
 
     go : (d : Decoded) → Placed k (literals_at F t (at + 5) n) → Placed k (step d)
-    go (Valid l) ih = and-then-placed k (literals_at F t (at + 5) n) (λ ls. accepted (l ∷ ls)) ih (λ ls. tt)
+    go (Valid l) ih = and-then-placed k (literals_at F t (at + 5) n) (λ ls. Ok (l ∷ ls)) ih (λ ls. tt)
     go Wrong ih = omega arith
 
 defeasible-placed : (k tag : ℕ) (h b c : List Literal) → Placed k (defeasible_rule tag h b c)
@@ -61,10 +61,10 @@ defeasible-placed k tag [] b c = omega arith
 defeasible-placed k tag (l ∷ h) b c = go (options_of (l ∷ h))
   where
     go : (o : Option (List SignedAtom))
-        → Placed {A = Rule} k (elim o as (λ x. Result Rule) [
-          | some os ↦ accepted
+        → Placed {A = Rule} k (elim o as (λ x. Answer Rule) [
+          | some os ↦ Ok
               (defeasible (record { 0 = tag }) os b c)
-          | none ↦ refused (refusal HeadWrong 0)
+          | none ↦ Err (refusal HeadWrong 0)
         ])
     go (some os) = tt
     go none = omega arith
@@ -137,8 +137,8 @@ record-placed F h t = refuse-if-placed (length t) _ _ _ (omega arith) (λ e. go 
     go NoMark = omega arith
 
 -- a record's refusal lies within its part
-pub step-place : (F : Limits) (h : Held) (t : List ℕ) (x : Refusal) → step_of (record_at F h t) ≡ Step.Refused x → x.place ≤ length t
+pub step-place : (F : Limits) (h : Held) (t : List ℕ) (x : Refusal) → step_of (record_at F h t) ≡ Err x → x.place ≤ length t
 step-place F h t x e = subst (Placed (length t)) (step-refused (record_at F h t) x e) (record-placed F h t)
 
-pub found-place : (F : Limits) (h : Held) (t : List ℕ) (x : Refusal) → found_of h (step_of (record_at F h t)) ≡ Found.Refused x → x.place ≤ length t
+pub found-place : (F : Limits) (h : Held) (t : List ℕ) (x : Refusal) → found_of h (step_of (record_at F h t)) ≡ Err x → x.place ≤ length t
 found-place F h t x e = subst (Placed (length t)) (found-refused h (record_at F h t) x e) (record-placed F h t)

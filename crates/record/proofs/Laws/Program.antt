@@ -2,6 +2,7 @@
 -- In order: a part that is read on; what a step says of its record; an item's size; reading on; the rules that are counted.
 -- Assumes nothing.
 use Prim.Native.Nat.{ℕ, suc, ◌+◌, ◌*◌, ◌-◌, ◌≤◌, ◌<◌}
+use Rattle.std.specs.Prelude.{Option, Ok, Err, Some, None}
 use native.Mathlib.Omega.{arith}
 use mathlib.Core.Path.{◌≡◌, refl, sym, ◌∙◌, ap}
 use mathlib.Core.Bool.{Bool}
@@ -17,13 +18,11 @@ use Rattle.record.specs.declared.Reason.TheVariants.{TooLong}
 use Rattle.record.specs.declared.Refusal.{Refusal}
 use Rattle.record.specs.declared.Step.{Step}
 use Rattle.record.specs.declared.Held.{Held}
-use Rattle.record.specs.declared.Found.{Found}
-use Rattle.record.specs.declared.Holding.{Holding}
 use Rattle.record.specs.Header.{head_count, positive_count, naf_count}
 use Rattle.record.specs.Refusal.{refusal, shifted}
-use Rattle.record.specs.Result.{Result, accepted, refused, and_then}
+use Rattle.record.specs.Result.{Answer, and_then}
 use Rattle.record.specs.Reading.{Mark, RuleMark, OverrideMark, OppositionMark, EndMark, NoMark, Entry, item, end, literals_at, rule_of, body_at, rule_at, override_at, signed_at, opposition_of, opposition_at, end_at, mark_at, marked_record, record_at, nothing, holding, items_from, items, written, held_of, holding_of, reading_of, reading}
-use Rattle.record.specs.Code.{step_of, found_of, total, held_on, read_on, left, rule_count}
+use Rattle.record.specs.Code.{step_of, next_of, found_of, total, held_on, read_on, left, rule_count}
 use Rattle.record.proofs.Laws.Result.{refused-accepted, accepted-eq, and-then-accepted, refuse-if-accepted, refuse-if-true, refuse-if-false}
 use Rattle.record.proofs.Laws.Steps.{items_refused, items-item, items-end}
 
@@ -57,47 +56,50 @@ unfolding held_of
 held_all is = held_on_lem nothing is ∙ held-eq (omega arith) (omega arith) (omega arith)
 
 -- a step that is a rule, the end or a refusal is that record
-pub step-rule : (e : Result Entry) (size : ℕ) → step_of e ≡ Step.Rule size → (r : Rule) × (e ≡ accepted (item (rule r) size))
+pub step-rule : (e : Answer Entry) (size : ℕ) → step_of e ≡ Ok (Step.Rule size) → (r : Rule) × (e ≡ Ok (item (rule r) size))
 unfolding step_of
-step-rule (accepted (item (rule r) k)) size e = let q : k ≡ size = cc in (r, ap (λ (m : ℕ). accepted (item (rule r) m)) q)
-step-rule (accepted (item (override o) k)) size e = let z : ◌≡◌ {A = ℕ} 0 1 = cc in absurd (omega arith)
-step-rule (accepted (item (opposition x) k)) size e = let z : ◌≡◌ {A = ℕ} 0 1 = cc in absurd (omega arith)
-step-rule (accepted end) size e = let z : ◌≡◌ {A = ℕ} 0 1 = cc in absurd (omega arith)
-step-rule (refused x) size e = let z : ◌≡◌ {A = ℕ} 0 1 = cc in absurd (omega arith)
+step-rule (Ok (item (rule r) k)) size e = let q : k ≡ size = cc in (r, ap (λ (m : ℕ). Ok (item (rule r) m)) q)
+step-rule (Ok (item (override o) k)) size e = let z : ◌≡◌ {A = ℕ} 0 1 = cc in absurd (omega arith)
+step-rule (Ok (item (opposition x) k)) size e = let z : ◌≡◌ {A = ℕ} 0 1 = cc in absurd (omega arith)
+step-rule (Ok end) size e = let z : ◌≡◌ {A = ℕ} 0 1 = cc in absurd (omega arith)
+step-rule (Err x) size e = let z : ◌≡◌ {A = ℕ} 0 1 = cc in absurd (omega arith)
 
-pub step-refused : (e : Result Entry) (x : Refusal) → step_of e ≡ Step.Refused x → e ≡ refused x
+pub step-refused : (e : Answer Entry) (x : Refusal) → step_of e ≡ Err x → e ≡ Err x
 unfolding step_of
-step-refused (accepted (item (rule r) k)) x e = let z : ◌≡◌ {A = ℕ} 0 1 = cc in absurd (omega arith)
-step-refused (accepted (item (override o) k)) x e = let z : ◌≡◌ {A = ℕ} 0 1 = cc in absurd (omega arith)
-step-refused (accepted (item (opposition y) k)) x e = let z : ◌≡◌ {A = ℕ} 0 1 = cc in absurd (omega arith)
-step-refused (accepted end) x e = let z : ◌≡◌ {A = ℕ} 0 1 = cc in absurd (omega arith)
-step-refused (refused y) x e = let q : y ≡ x = cc in ap refused q
+step-refused (Ok (item (rule r) k)) x e = let z : ◌≡◌ {A = ℕ} 0 1 = cc in absurd (omega arith)
+step-refused (Ok (item (override o) k)) x e = let z : ◌≡◌ {A = ℕ} 0 1 = cc in absurd (omega arith)
+step-refused (Ok (item (opposition y) k)) x e = let z : ◌≡◌ {A = ℕ} 0 1 = cc in absurd (omega arith)
+step-refused (Ok end) x e = let z : ◌≡◌ {A = ℕ} 0 1 = cc in absurd (omega arith)
+step-refused (Err y) x e = let q : y ≡ x = cc in ap Err q
+
+next-eq : {m n : ℕ} {h k : Held} → ◌≡◌ {A = Answer (Option (ℕ × Held))} (Ok (Some (m, h))) (Ok (Some (n, k))) → (m ≡ n) × (h ≡ k)
+next-eq {m} {n} {h} {k} e = let q : ◌≡◌ {A = ℕ × Held} (m, h) (n, k) = cc in (ap (λ (p : ℕ × Held). p.0) q, ap (λ (p : ℕ × Held). p.1) q)
 
 -- what is found behind a record is the part behind its item, the end or its refusal
-pub found-next : (h : Held) (e : Result Entry) (size : ℕ) (next : Held) → found_of h (step_of e) ≡ Found.Next size next
-    → (i : Item) × (e ≡ accepted (item i size)) × (holding h i ≡ next)
-unfolding step_of found_of holding
-found-next h (accepted (item (rule r) k)) size next e = let q : k ≡ size = cc in (rule r, ap (λ (m : ℕ). accepted (item (rule r) m)) q, (cc))
-found-next h (accepted (item (override o) k)) size next e = let q : k ≡ size = cc in (override o, ap (λ (m : ℕ). accepted (item (override o) m)) q, (cc))
-found-next h (accepted (item (opposition x) k)) size next e = let q : k ≡ size = cc in (opposition x, ap (λ (m : ℕ). accepted (item (opposition x) m)) q, (cc))
-found-next h (accepted end) size next e = let z : ◌≡◌ {A = ℕ} 0 1 = cc in absurd (omega arith)
-found-next h (refused x) size next e = let z : ◌≡◌ {A = ℕ} 0 1 = cc in absurd (omega arith)
+pub found-next : (h : Held) (e : Answer Entry) (size : ℕ) (next : Held) → found_of h (step_of e) ≡ Ok (Some (size, next))
+    → (i : Item) × (e ≡ Ok (item i size)) × (holding h i ≡ next)
+unfolding step_of found_of next_of holding
+found-next h (Ok (item (rule r) k)) size next e = let q = next-eq e in (rule r, ap (λ (m : ℕ). Ok (item (rule r) m)) q.0, q.1)
+found-next h (Ok (item (override o) k)) size next e = let q = next-eq e in (override o, ap (λ (m : ℕ). Ok (item (override o) m)) q.0, q.1)
+found-next h (Ok (item (opposition x) k)) size next e = let q = next-eq e in (opposition x, ap (λ (m : ℕ). Ok (item (opposition x) m)) q.0, q.1)
+found-next h (Ok end) size next e = let z : ◌≡◌ {A = ℕ} 0 1 = cc in absurd (omega arith)
+found-next h (Err x) size next e = let z : ◌≡◌ {A = ℕ} 0 1 = cc in absurd (omega arith)
 
-pub found-end : (h : Held) (e : Result Entry) → found_of h (step_of e) ≡ Found.End → e ≡ accepted end
-unfolding step_of found_of
-found-end h (accepted (item (rule r) k)) e = let z : ◌≡◌ {A = ℕ} 0 1 = cc in absurd (omega arith)
-found-end h (accepted (item (override o) k)) e = let z : ◌≡◌ {A = ℕ} 0 1 = cc in absurd (omega arith)
-found-end h (accepted (item (opposition x) k)) e = let z : ◌≡◌ {A = ℕ} 0 1 = cc in absurd (omega arith)
-found-end h (accepted end) e = refl
-found-end h (refused x) e = let z : ◌≡◌ {A = ℕ} 0 1 = cc in absurd (omega arith)
+pub found-end : (h : Held) (e : Answer Entry) → found_of h (step_of e) ≡ Ok None → e ≡ Ok end
+unfolding step_of found_of next_of
+found-end h (Ok (item (rule r) k)) e = let z : ◌≡◌ {A = ℕ} 0 1 = cc in absurd (omega arith)
+found-end h (Ok (item (override o) k)) e = let z : ◌≡◌ {A = ℕ} 0 1 = cc in absurd (omega arith)
+found-end h (Ok (item (opposition x) k)) e = let z : ◌≡◌ {A = ℕ} 0 1 = cc in absurd (omega arith)
+found-end h (Ok end) e = refl
+found-end h (Err x) e = let z : ◌≡◌ {A = ℕ} 0 1 = cc in absurd (omega arith)
 
-pub found-refused : (h : Held) (e : Result Entry) (x : Refusal) → found_of h (step_of e) ≡ Found.Refused x → e ≡ refused x
-unfolding step_of found_of
-found-refused h (accepted (item (rule r) k)) x e = let z : ◌≡◌ {A = ℕ} 0 1 = cc in absurd (omega arith)
-found-refused h (accepted (item (override o) k)) x e = let z : ◌≡◌ {A = ℕ} 0 1 = cc in absurd (omega arith)
-found-refused h (accepted (item (opposition y) k)) x e = let z : ◌≡◌ {A = ℕ} 0 1 = cc in absurd (omega arith)
-found-refused h (accepted end) x e = let z : ◌≡◌ {A = ℕ} 0 1 = cc in absurd (omega arith)
-found-refused h (refused y) x e = let q : y ≡ x = cc in ap refused q
+pub found-refused : (h : Held) (e : Answer Entry) (x : Refusal) → found_of h (step_of e) ≡ Err x → e ≡ Err x
+unfolding step_of found_of next_of
+found-refused h (Ok (item (rule r) k)) x e = let z : ◌≡◌ {A = ℕ} 0 1 = cc in absurd (omega arith)
+found-refused h (Ok (item (override o) k)) x e = let z : ◌≡◌ {A = ℕ} 0 1 = cc in absurd (omega arith)
+found-refused h (Ok (item (opposition y) k)) x e = let z : ◌≡◌ {A = ℕ} 0 1 = cc in absurd (omega arith)
+found-refused h (Ok end) x e = let z : ◌≡◌ {A = ℕ} 0 1 = cc in absurd (omega arith)
+found-refused h (Err y) x e = let q : y ≡ x = cc in ap Err q
 
 -- an item's record has six bytes at least and lies within its part
 pub record Sized (t : List ℕ) (size : ℕ) : Type 0 where
@@ -111,7 +113,7 @@ end-item : {i : Item} {n : ℕ} → end ≡ item i n → ⊥
 end-item e = let z : ◌≡◌ {A = ℕ} 0 1 = cc in omega arith
 
 module _ (F : Limits) (t : List ℕ) (i : Item) (size : ℕ) where
-  body-size : (d : Bool) (h b c : ℕ) → body_at F d t h b c ≡ accepted (item i size) → Sized t size
+  body-size : (d : Bool) (h b c : ℕ) → body_at F d t h b c ≡ Ok (item i size) → Sized t size
   unfolding body_at
   body-size d h b c e =
       let q1 = refuse-if-accepted _ _ _ (item i size) e in
@@ -121,7 +123,7 @@ module _ (F : Limits) (t : List ℕ) (i : Item) (size : ℕ) where
       let fits = ltb-false (length t) (7 + 5 * (h + b + c)) q1.0 in
       record { large = omega (arith, same); fits = omega (arith, same, fits) }
 
-  rule-size : (d : Bool) (n : ℕ) → rule_at F d n t ≡ accepted (item i size) → Sized t size
+  rule-size : (d : Bool) (n : ℕ) → rule_at F d n t ≡ Ok (item i size) → Sized t size
   unfolding rule_at
   rule-size d n e =
       let q1 = refuse-if-accepted _ _ _ (item i size) e in
@@ -130,7 +132,7 @@ module _ (F : Limits) (t : List ℕ) (i : Item) (size : ℕ) where
       let q4 = refuse-if-accepted _ _ _ (item i size) q3.1 in
       body-size d (head_count t) (positive_count t) (naf_count t) q4.1
 
-  override-size : (n : ℕ) → override_at F n t ≡ accepted (item i size) → Sized t size
+  override-size : (n : ℕ) → override_at F n t ≡ Ok (item i size) → Sized t size
   unfolding override_at
   override-size n e =
       let q1 = refuse-if-accepted _ _ _ (item i size) e in
@@ -140,7 +142,7 @@ module _ (F : Limits) (t : List ℕ) (i : Item) (size : ℕ) where
       let same = item-size-eq (accepted-eq q4.1) in
       record { large = omega (arith, same); fits = omega (arith, same, ltb-false (length t) 6 q2.0) }
 
-  opposition-size : (n : ℕ) → opposition_at F n t ≡ accepted (item i size) → Sized t size
+  opposition-size : (n : ℕ) → opposition_at F n t ≡ Ok (item i size) → Sized t size
   unfolding opposition_at opposition_of
   opposition-size n e =
       let q1 = refuse-if-accepted _ _ _ (item i size) e in
@@ -151,11 +153,11 @@ module _ (F : Limits) (t : List ℕ) (i : Item) (size : ℕ) where
       let same = item-size-eq (accepted-eq q5.1) in
       record { large = omega (arith, same); fits = omega (arith, same, ltb-false (length t) 12 q2.0) }
 
-  pub record-size : (h : Held) → record_at F h t ≡ accepted (item i size) → Sized t size
+  pub record-size : (h : Held) → record_at F h t ≡ Ok (item i size) → Sized t size
   unfolding record_at marked_record end_at
   record-size h e = go (mark_at F t) (refuse-if-accepted _ _ _ (item i size) e).1
     where
-      go : (m : Mark) → marked_record F m h t ≡ accepted (item i size) → Sized t size
+      go : (m : Mark) → marked_record F m h t ≡ Ok (item i size) → Sized t size
       go (RuleMark d) f = rule-size d h.rules f
       go OverrideMark f = override-size h.overrides f
       go OppositionMark f = opposition-size h.oppositions f
@@ -164,33 +166,33 @@ module _ (F : Limits) (t : List ℕ) (i : Item) (size : ℕ) where
           absurd (end-item (accepted-eq (refuse-if-accepted _ _ _ (item i size) q1.1).1))
       go NoMark f = absurd (refused-accepted f)
 
-pub step-size : (F : Limits) (h : Held) (t : List ℕ) (size : ℕ) → step_of (record_at F h t) ≡ Step.Rule size → Sized t size
+pub step-size : (F : Limits) (h : Held) (t : List ℕ) (size : ℕ) → step_of (record_at F h t) ≡ Ok (Step.Rule size) → Sized t size
 step-size F h t size e = let w = step-rule (record_at F h t) size e in record-size F t (rule w.0) size h w.1
 
-pub found-size : (F : Limits) (h : Held) (t : List ℕ) (size : ℕ) (next : Held) → found_of h (step_of (record_at F h t)) ≡ Found.Next size next → Sized t size
+pub found-size : (F : Limits) (h : Held) (t : List ℕ) (size : ℕ) (next : Held) → found_of h (step_of (record_at F h t)) ≡ Ok (Some (size, next)) → Sized t size
 found-size F h t size next e = let w = found-next h (record_at F h t) size next e in record-size F t w.0 size h w.1
 
 -- one item more is held
-pub found-total : (F : Limits) (h : Held) (t : List ℕ) (size : ℕ) (next : Held) → found_of h (step_of (record_at F h t)) ≡ Found.Next size next
+pub found-total : (F : Limits) (h : Held) (t : List ℕ) (size : ℕ) (next : Held) → found_of h (step_of (record_at F h t)) ≡ Ok (Some (size, next))
     → total next ≡ total h + 1
 found-total F h t size next e = let w = found-next h (record_at F h t) size next e in ap total (sym w.2) ∙ total-holding h w.0
 
 -- an item more before a part is an item more held
-read-cons : (h : Held) (i : Item) (q : Result (List Item)) → read_on h (and_then q (λ is. accepted (i ∷ is))) ≡ read_on (holding h i) q
+read-cons : (h : Held) (i : Item) (q : Answer (List Item)) → read_on h (and_then q (λ is. Ok (i ∷ is))) ≡ read_on (holding h i) q
 unfolding read_on and_then held_on
-read-cons h i (accepted is) = refl
-read-cons h i (refused x) = refl
+read-cons h i (Ok is) = refl
+read-cons h i (Err x) = refl
 
 module _ (F : Limits) (s : List ℕ) where
   -- 1: the slice is too long
-  pub items-long : F.length < length s → holding_of (items F s) ≡ Holding.Refused (refusal TooLong 0)
+  pub items-long : F.length < length s → holding_of (items F s) ≡ Err (refusal TooLong 0)
   unfolding items holding_of
   items-long h = ap holding_of (refuse-if-true _ _ _ (lt-ltb F.length (length s) h))
 
-  all_read : (q : Result (List Item)) → holding_of q ≡ read_on nothing q
+  all_read : (q : Answer (List Item)) → holding_of q ≡ read_on nothing q
   unfolding holding_of read_on
-  all_read (accepted is) = ap Holding.All (sym (held_all is))
-  all_read (refused x) = refl
+  all_read (Ok is) = ap Ok (sym (held_all is))
+  all_read (Err x) = refl
 
   pub items_left : length s ≤ F.length → holding_of (items F s) ≡ left F s 0 nothing
   unfolding items left
@@ -205,7 +207,7 @@ module _ (F : Limits) (s : List ℕ) where
     fuel-more : length s + 1 - total h ≡ suc (length s + 1 - (total h + 1))
     fuel-more = omega arith
 
-    pub left-next : (size : ℕ) (next : Held) → found_of h (step_of (record_at F h (drop at s))) ≡ Found.Next size next → left F s at h ≡ left F s (at + size) next
+    pub left-next : (size : ℕ) (next : Held) → found_of h (step_of (record_at F h (drop at s))) ≡ Ok (Some (size, next)) → left F s at h ≡ left F s (at + size) next
     unfolding left
     left-next size next e =
         let w = found-next h (record_at F h (drop at s)) size next e in
@@ -217,13 +219,13 @@ module _ (F : Limits) (s : List ℕ) where
         ∙ ap (λ (k : ℕ). read_on (holding h w.0) (items_from F (length s + 1 - k) (drop (at + size) s) (at + size) (holding h w.0))) (sym (total-holding h w.0))
         ∙ ap (λ (k : Held). left F s (at + size) k) w.2
 
-    pub left_end : found_of h (step_of (record_at F h (drop at s))) ≡ Found.End → left F s at h ≡ Holding.All h
+    pub left_end : found_of h (step_of (record_at F h (drop at s))) ≡ Ok None → left F s at h ≡ Ok h
     unfolding left read_on held_on
     left_end e =
         ap (λ (f : ℕ). read_on h (items_from F f (drop at s) at h)) fuel-more
         ∙ ap (read_on h) (items-end F (length s + 1 - (total h + 1)) (drop at s) at h (found-end h (record_at F h (drop at s)) e))
 
-    pub left-refused : (x : Refusal) → found_of h (step_of (record_at F h (drop at s))) ≡ Found.Refused x → left F s at h ≡ Holding.Refused (shifted at x)
+    pub left-refused : (x : Refusal) → found_of h (step_of (record_at F h (drop at s))) ≡ Err x → left F s at h ≡ Err (shifted at x)
     unfolding left read_on
     left-refused x e =
         ap (λ (f : ℕ). read_on h (items_from F f (drop at s) at h)) fuel-more
@@ -234,6 +236,6 @@ pub rules-counted : (F : Limits) (s : List ℕ) → reading F s ≡ rule_count (
 unfolding reading written reading_of and_then rule_count holding_of held_of
 rules-counted F s = go (items F s)
   where
-    go : (q : Result (List Item)) → reading_of (and_then q (λ is. accepted (rules is))) ≡ rule_count (holding_of q)
-    go (accepted is) = refl
-    go (refused x) = refl
+    go : (q : Answer (List Item)) → reading_of (and_then q (λ is. Ok (rules is))) ≡ rule_count (holding_of q)
+    go (Ok is) = refl
+    go (Err x) = refl

@@ -2,6 +2,7 @@
 -- In order: what reading answered; the law; the program that is meant; files without sheets, and forms without them.
 -- Assumes nothing.
 use Prim.Native.Nat.{ℕ, ◌+◌, ◌≤◌}
+use Rattle.std.specs.Prelude.{Ok, Err}
 use native.Mathlib.Omega.{arith}
 use mathlib.Core.Path.{◌≡◌, refl, sym, ◌∙◌, ap, subst}
 use mathlib.Core.Logic.{◌↔◌}
@@ -16,9 +17,7 @@ use Rattle.semantics.specs.Rule.{Program}
 use Rattle.semantics.specs.Item.{Item, rule, rules, overrides, oppositions, expanded}
 use Rattle.record.specs.declared.Refusal.{Refusal}
 use Rattle.record.specs.declared.Held.{Held}
-use Rattle.record.specs.declared.Holding.{Holding}
-use Rattle.record.specs.declared.Reading.{Reading}
-use Rattle.record.specs.Result.{Result, accepted, refused, and_then}
+use Rattle.record.specs.Result.{Answer, and_then}
 use Rattle.record.specs.Layout.{encoded_end, encoded_program, keeps, encoded_items, encoded_file, keeps_file}
 use Rattle.record.specs.Reading.{nothing, items_from, items, parsed, held_of, holding_of, reading_of}
 use Rattle.record.specs.Code.{sheeted}
@@ -32,26 +31,26 @@ use Rattle.record.proofs.Laws.Unsheeted.{expanded-rules, file-bytes, program-fil
 
 -- the rules, or the literals, that reading counted
 module _ {A : Type 0} where
-  pub read_count : (q : Result (List A)) (k : ℕ) → reading_of q ≡ Reading.Count k → (xs : List A) × (q ≡ accepted xs) × (length xs ≡ k)
+  pub read_count : (q : Answer (List A)) (k : ℕ) → reading_of q ≡ Ok k → (xs : List A) × (q ≡ Ok xs) × (length xs ≡ k)
   unfolding reading_of
-  read_count (accepted xs) k e = let n : length xs ≡ k = cc in (xs, refl, n)
-  read_count (refused x) k e = let z : ◌≡◌ {A = ℕ} 0 1 = cc in absurd (omega arith)
+  read_count (Ok xs) k e = let n : length xs ≡ k = cc in (xs, refl, n)
+  read_count (Err x) k e = let z : ◌≡◌ {A = ℕ} 0 1 = cc in absurd (omega arith)
 
-  pub read-refused : (q : Result (List A)) (x : Refusal) → reading_of q ≡ Reading.Refused x → q ≡ refused x
+  pub read-refused : (q : Answer (List A)) (x : Refusal) → reading_of q ≡ Err x → q ≡ Err x
   unfolding reading_of
-  read-refused (accepted xs) x e = let z : ◌≡◌ {A = ℕ} 0 1 = cc in absurd (omega arith)
-  read-refused (refused y) x e = let q : y ≡ x = cc in ap refused q
+  read-refused (Ok xs) x e = let z : ◌≡◌ {A = ℕ} 0 1 = cc in absurd (omega arith)
+  read-refused (Err y) x e = let q : y ≡ x = cc in ap Err q
 
 -- the items that are held
-pub held_items : (q : Result (List Item)) (h : Held) → holding_of q ≡ Holding.All h → (is : List Item) × (q ≡ accepted is) × (held_of is ≡ h)
+pub held_items : (q : Answer (List Item)) (h : Held) → holding_of q ≡ Ok h → (is : List Item) × (q ≡ Ok is) × (held_of is ≡ h)
 unfolding holding_of
-held_items (accepted is) h e = (is, refl, (cc))
-held_items (refused x) h e = let z : ◌≡◌ {A = ℕ} 0 1 = cc in absurd (omega arith)
+held_items (Ok is) h e = (is, refl, (cc))
+held_items (Err x) h e = let z : ◌≡◌ {A = ℕ} 0 1 = cc in absurd (omega arith)
 
-pub held-refused : (q : Result (List Item)) (x : Refusal) → holding_of q ≡ Holding.Refused x → q ≡ refused x
+pub held-refused : (q : Answer (List Item)) (x : Refusal) → holding_of q ≡ Err x → q ≡ Err x
 unfolding holding_of
-held-refused (accepted is) x e = let z : ◌≡◌ {A = ℕ} 0 1 = cc in absurd (omega arith)
-held-refused (refused y) x e = let q : y ≡ x = cc in ap refused q
+held-refused (Ok is) x e = let z : ◌≡◌ {A = ℕ} 0 1 = cc in absurd (omega arith)
+held-refused (Err y) x e = let q : y ≡ x = cc in ap Err q
 
 -- where no sheet record is held there is no override and no opposition
 pub none-sheeted : (is : List Item) → sheeted (held_of is) ≡ false → (length (overrides is) ≡ 0) × (length (oppositions is) ≡ 0)
@@ -66,7 +65,7 @@ none-sheeted is e = go (ltb 0 (length (overrides is))) (ltb 0 (length (oppositio
 
 module _ (F : Limits) where
   -- what is read is the encoding of items within the limits
-  pub items-read : (b : List ℕ) (is : List Item) → Bytes b → items F b ≡ accepted is → (b ≡ encoded_file is) × T (keeps_file F is)
+  pub items-read : (b : List ℕ) (is : List Item) → Bytes b → items F b ≡ Ok is → (b ≡ encoded_file is) × T (keeps_file F is)
   unfolding items encoded_file held_of
   items-read b is bytes e =
       let q = refuse-if-accepted _ _ _ is e in
@@ -78,7 +77,7 @@ module _ (F : Limits) where
       (same, keeps-file F is all.rules all.overrides all.oppositions w.keeps short)
 
   -- the encoding of items within the limits is read as those items
-  pub items-written : (is : List Item) → T (keeps_file F is) → items F (encoded_file is) ≡ accepted is
+  pub items-written : (is : List Item) → T (keeps_file F is) → items F (encoded_file is) ≡ Ok is
   unfolding items encoded_file held_of
   items-written is k =
       let w = kept-file F is k in
@@ -88,26 +87,26 @@ module _ (F : Limits) where
       ∙ items-complete F (length (encoded_file is) + 1) is 0 nothing w.each (subst (Fitting F) (sym (held_all is)) room) (omega (arith, items-below-length is))
 
   -- the law of reading: b is read as these items exactly if it is their encoding and they keep the form's limits
-  pub items-iff : (b : List ℕ) (is : List Item) → Bytes b → (items F b ≡ accepted is) ↔ ((b ≡ encoded_file is) × T (keeps_file F is))
+  pub items-iff : (b : List ℕ) (is : List Item) → Bytes b → (items F b ≡ Ok is) ↔ ((b ≡ encoded_file is) × T (keeps_file F is))
   items-iff b is bytes = (items-read b is bytes, λ w. ap (items F) w.0 ∙ items-written is w.1)
 
   -- the program that is meant is that of the items
-  pub parsed-items : (b : List ℕ) (p : Program) → parsed F b ≡ accepted p → (is : List Item) × (items F b ≡ accepted is) × (expanded is ≡ p)
+  pub parsed-items : (b : List ℕ) (p : Program) → parsed F b ≡ Ok p → (is : List Item) × (items F b ≡ Ok is) × (expanded is ≡ p)
   unfolding parsed
-  parsed-items b p e = let w = and-then-accepted (items F b) (λ is. accepted (expanded is)) p e in (w.0, w.1, accepted-eq w.2)
+  parsed-items b p e = let w = and-then-accepted (items F b) (λ is. Ok (expanded is)) p e in (w.0, w.1, accepted-eq w.2)
 
-  pub items-parsed : (b : List ℕ) (is : List Item) → items F b ≡ accepted is → parsed F b ≡ accepted (expanded is)
+  pub items-parsed : (b : List ℕ) (is : List Item) → items F b ≡ Ok is → parsed F b ≡ Ok (expanded is)
   unfolding parsed and_then
-  items-parsed b is e = ap (λ (r : Result (List Item)). and_then r (λ is. accepted (expanded is))) e
+  items-parsed b is e = ap (λ (r : Answer (List Item)). and_then r (λ is. Ok (expanded is))) e
 
   -- the encoding of a program within the limits is read as that program
-  pub parsed-complete : (p : Program) → T (keeps F p) → parsed F (encoded_program p) ≡ accepted p
+  pub parsed-complete : (p : Program) → T (keeps F p) → parsed F (encoded_program p) ≡ Ok p
   parsed-complete p k =
       ap (parsed F) (sym (file-bytes p)) ∙ items-parsed (encoded_file (map rule p)) (map rule p) (items-written (map rule p) (program-file F p k))
-      ∙ ap accepted (expanded-rules p)
+      ∙ ap Ok (expanded-rules p)
 
   -- a file that holds no sheet record is the encoding of the program that it means
-  pub unsheeted : (b : List ℕ) (is : List Item) → Bytes b → items F b ≡ accepted is → length (overrides is) ≡ 0 → length (oppositions is) ≡ 0
+  pub unsheeted : (b : List ℕ) (is : List Item) → Bytes b → items F b ≡ Ok is → length (overrides is) ≡ 0 → length (oppositions is) ≡ 0
       → (b ≡ encoded_program (expanded is)) × T (keeps F (expanded is))
   unsheeted b is bytes e o x =
       let w = items-read b is bytes e in
@@ -120,16 +119,16 @@ module _ (F : Limits) where
 
   -- in a form without sheets every file is such a one
   module _ (none : F.sheets ≡ 0) where
-    pub no-sheets : (b : List ℕ) (is : List Item) → Bytes b → items F b ≡ accepted is → (length (overrides is) ≡ 0) × (length (oppositions is) ≡ 0)
+    pub no-sheets : (b : List ℕ) (is : List Item) → Bytes b → items F b ≡ Ok is → (length (overrides is) ≡ 0) × (length (oppositions is) ≡ 0)
     no-sheets b is bytes e =
         let w = kept-file F is (items-read b is bytes e).1 in (omega (arith, w.overrides), omega (arith, w.oppositions))
 
-    pub parsed-sound : (b : List ℕ) (p : Program) → Bytes b → parsed F b ≡ accepted p → (b ≡ encoded_program p) × T (keeps F p)
+    pub parsed-sound : (b : List ℕ) (p : Program) → Bytes b → parsed F b ≡ Ok p → (b ≡ encoded_program p) × T (keeps F p)
     parsed-sound b p bytes e =
         let w = parsed-items b p e in
         let n = no-sheets b w.0 bytes w.1 in
         subst (λ (q : Program). (b ≡ encoded_program q) × T (keeps F q)) w.2 (unsheeted b w.0 bytes w.1 n.0 n.1)
 
     -- there reading accepts b as p exactly if b is the encoding of p and p keeps the form's limits
-    pub reading-iff : (b : List ℕ) (p : Program) → Bytes b → (parsed F b ≡ accepted p) ↔ ((b ≡ encoded_program p) × T (keeps F p))
+    pub reading-iff : (b : List ℕ) (p : Program) → Bytes b → (parsed F b ≡ Ok p) ↔ ((b ≡ encoded_program p) × T (keeps F p))
     reading-iff b p bytes = (parsed-sound b p bytes, λ w. ap (parsed F) w.0 ∙ parsed-complete p w.1)

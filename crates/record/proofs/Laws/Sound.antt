@@ -2,6 +2,7 @@
 -- In order: a run of literals; the first bytes; marks; the rule; sheet records; one record; the file.
 -- Assumes nothing.
 use Prim.Native.Nat.{ℕ, zero, suc, ◌+◌, ◌*◌, ◌≤◌, ◌<◌}
+use Rattle.std.specs.Prelude.{Ok, Err}
 use native.Mathlib.Omega.{arith}
 use mathlib.Core.Path.{◌≡◌, refl, sym, ◌∙◌, ap, ap₂, subst}
 use mathlib.Core.Bool.{Bool, true, false, not, ◌&&◌, true≢false}
@@ -29,7 +30,7 @@ use Rattle.record.specs.declared.Reason.TheVariants.{LiteralWrong, HeadWrong}
 use Rattle.record.specs.declared.Held.{Held}
 use Rattle.record.specs.Header.{strict_letter, defeasible_letter, end_letter, override_letter, opposition_letter, letter_of, head_count, positive_count, naf_count, colon}
 use Rattle.record.specs.Refusal.{refusal, shifted}
-use Rattle.record.specs.Result.{Result, accepted, refused, and_then}
+use Rattle.record.specs.Result.{Answer, and_then}
 use Rattle.record.specs.Layout.{encoded_literals, rule_record, encoded_rule, encoded_end, encoded_override, encoded_opposition, encoded_item, encoded_items}
 use Rattle.record.specs.Reading.{Mark, RuleMark, OverrideMark, OppositionMark, EndMark, NoMark, Entry, item, end, literals_at, options_of, defeasible_rule, rule_of, tag_right, body_at, rule_at, override_at, signed_of, signed_at, opposition_of, opposition_at, end_at, marked, pick_mark, mark_at, marked_record, record_at, holding, items_from}
 use Rattle.record.specs.Code.{held_on}
@@ -56,7 +57,7 @@ run-cons F bs n l ls h r =
 
 module _ (F : Limits) where
   pub literals-sound : (t : List ℕ) → Bytes t → (n at : ℕ) (ls : List Literal) → at + 5 * n ≤ length t
-      → literals_at F t at n ≡ accepted ls → Run F (drop at t) n ls
+      → literals_at F t at n ≡ Ok ls → Run F (drop at t) n ls
   unfolding literals_at encoded_literals
   literals-sound t bytes zero at ls fits e =
       let nil : [] ≡ ls = accepted-eq e in
@@ -68,14 +69,14 @@ module _ (F : Limits) where
   literals-sound t bytes (suc n) at ls fits e =
       go (decoded F (drop at t)) refl e (λ ms z. literals-sound t bytes n (at + 5) ms (omega arith) z)
     where
-      after : Decoded → Result (List Literal)
-      after d = elim d [ Valid l ↦ and_then (literals_at F t (at + 5) n) (λ ls. accepted (l ∷ ls)) | Wrong ↦ refused (refusal LiteralWrong at) ]
+      after : Decoded → Answer (List Literal)
+      after d = elim d [ Valid l ↦ and_then (literals_at F t (at + 5) n) (λ ls. Ok (l ∷ ls)) | Wrong ↦ Err (refusal LiteralWrong at) ]
 
-      go : (d : Decoded) → decoded F (drop at t) ≡ d → after d ≡ accepted ls
-          → ((ms : List Literal) → literals_at F t (at + 5) n ≡ accepted ms → Run F (drop (at + 5) t) n ms) → Run F (drop at t) (suc n) ls
+      go : (d : Decoded) → decoded F (drop at t) ≡ d → after d ≡ Ok ls
+          → ((ms : List Literal) → literals_at F t (at + 5) n ≡ Ok ms → Run F (drop (at + 5) t) n ms) → Run F (drop at t) (suc n) ls
       go Wrong q f ih = absurd (refused-accepted f)
       go (Valid l) q f ih =
-          let w = and-then-accepted (literals_at F t (at + 5) n) (λ ms. accepted (l ∷ ms)) ls f in
+          let w = and-then-accepted (literals_at F t (at + 5) n) (λ ms. Ok (l ∷ ms)) ls f in
           let here = encoded-decoded F (drop at t) l (bytes_drop at t bytes) (omega (arith, length-drop at t)) q in
           let rest = rw (← drop-drop 5 at t) at (ih w.0 w.1) in
           subst (Run F (drop at t) (suc n)) (accepted-eq w.2) (run-cons F (drop at t) n l w.0 here rest)
@@ -262,13 +263,13 @@ record DefeasibleIs (tag : ℕ) (hs bs cs : List Literal) (r : Rule) : Type 0 wh
   full : 1 ≤ length hs
   same : defeasible (record { 0 = tag }) options bs cs ≡ r
 
-defeasible-accepted : (tag : ℕ) (hs bs cs : List Literal) (r : Rule) → defeasible_rule tag hs bs cs ≡ accepted r → DefeasibleIs tag hs bs cs r
+defeasible-accepted : (tag : ℕ) (hs bs cs : List Literal) (r : Rule) → defeasible_rule tag hs bs cs ≡ Ok r → DefeasibleIs tag hs bs cs r
 unfolding defeasible_rule
 defeasible-accepted tag [] bs cs r e = absurd (refused-accepted e)
 defeasible-accepted tag (l ∷ hs) bs cs r e = go (options_of (l ∷ hs)) refl e
   where
     go : (o : Option (List SignedAtom)) → options_of (l ∷ hs) ≡ o
-        → (elim o as (λ x. Result Rule) [ some os ↦ accepted (defeasible (record { 0 = tag }) os bs cs) | none ↦ refused (refusal HeadWrong 0) ]) ≡ accepted r
+        → (elim o as (λ x. Answer Rule) [ some os ↦ Ok (defeasible (record { 0 = tag }) os bs cs) | none ↦ Err (refusal HeadWrong 0) ]) ≡ Ok r
         → DefeasibleIs tag (l ∷ hs) bs cs r
     go none q f = absurd (refused-accepted f)
     go (some os) q f = record { options = os; heads = options-of (l ∷ hs) os q; full = omega arith; same = accepted-eq f }
@@ -327,7 +328,7 @@ module _ (F : Limits) (tag h b c : ℕ) (ls : List Literal) (count : length ls �
       options = sym (length-map os Signed) ∙ ap length e
 
   -- the rule that the reader makes is such a rule
-  rule-of : (d : Bool) → T (tag_right F d tag) → (T d → T F.defeasible) → (r : Rule) → rule_of d tag h b ls ≡ accepted r
+  rule-of : (d : Bool) → T (tag_right F d tag) → (T d → T F.defeasible) → (r : Rule) → rule_of d tag h b ls ≡ Ok r
       → RuleIs F (letter d ∷ colon ∷ (two_bytes tag ++ (h ∷ b ∷ c ∷ encoded_literals ls))) r
   unfolding rule_of tag_right letter hs bs cs heads positives nafs
   rule-of false right form r e =
@@ -376,7 +377,7 @@ module _ (F : Limits) (h : Held) (fitting : Fitting F h) (t : List ℕ) (bytes :
   -- the literals of a record whose header is right
   body-sound : (d : Bool) → MarkIs F t d → 7 ≤ length t → h.rules < F.rules → T (tag_right F d (number_at t 2))
       → T (keeps_counts F (head_count t) (positive_count t) (naf_count t))
-      → body_at F d t (head_count t) (positive_count t) (naf_count t) ≡ accepted e → EntryItem F h t e
+      → body_at F d t (head_count t) (positive_count t) (naf_count t) ≡ Ok e → EntryItem F h t e
   unfolding body_at encoded_item keeps_item holding
   body-sound d m seven room right counts q =
       let a = head_count t in
@@ -402,7 +403,7 @@ module _ (F : Limits) (h : Held) (fitting : Fitting F h) (t : List ℕ) (bytes :
             };
       }
 
-  rule-sound : (d : Bool) → MarkIs F t d → rule_at F d h.rules t ≡ accepted e → EntryItem F h t e
+  rule-sound : (d : Bool) → MarkIs F t d → rule_at F d h.rules t ≡ Ok e → EntryItem F h t e
   unfolding rule_at
   rule-sound d m q =
       let q1 = refuse-if-accepted _ _ _ e q in
@@ -424,7 +425,7 @@ module _ (F : Limits) (h : Held) (fitting : Fitting F h) (t : List ℕ) (bytes :
       ∙ ap₂ (λ (xs ys : List ℕ). override_letter ∷ colon ∷ (xs ++ ys))
       (sym (two_bytes-number (get_or t 2 0) (get_or t 3 0) (bytes 3))) (sym (two_bytes-number (get_or t 4 0) (get_or t 5 0) (bytes 5)))
 
-  override-sound : T (marked override_letter t) → override_at F h.overrides t ≡ accepted e → EntryItem F h t e
+  override-sound : T (marked override_letter t) → override_at F h.overrides t ≡ Ok e → EntryItem F h t e
   unfolding override_at encoded_item encoded_override keeps_item keeps_override holding
   override-sound m q =
       let q1 = refuse-if-accepted _ _ _ e q in
@@ -451,12 +452,12 @@ module _ (F : Limits) (h : Held) (fitting : Fitting F h) (t : List ℕ) (bytes :
       }
 
   -- an option's five bytes
-  signed-sound : (at : ℕ) (a : SignedAtom) → at + 5 ≤ length t → signed_at F t at ≡ accepted a
+  signed-sound : (at : ℕ) (a : SignedAtom) → at + 5 ≤ length t → signed_at F t at ≡ Ok a
       → (take 5 (drop at t) ≡ encoded (Signed a)) × T (takes F (Signed a))
   unfolding signed_at signed_of
   signed-sound at a fits q = go (decoded F (drop at t)) refl q
     where
-      go : (d : Decoded) → decoded F (drop at t) ≡ d → signed_of d at ≡ accepted a → (take 5 (drop at t) ≡ encoded (Signed a)) × T (takes F (Signed a))
+      go : (d : Decoded) → decoded F (drop at t) ≡ d → signed_of d at ≡ Ok a → (take 5 (drop at t) ≡ encoded (Signed a)) × T (takes F (Signed a))
       go (Valid (Signed b)) w f =
           encoded-decoded F (drop at t) (Signed a) (bytes_drop at t bytes) (omega (arith, length-drop at t))
           (w ∙ ap (λ (c : SignedAtom). Valid (Signed c)) (accepted-eq f))
@@ -477,7 +478,7 @@ module _ (F : Limits) (h : Held) (fitting : Fitting F h) (t : List ℕ) (bytes :
       (eqb→eq (get_or t 1 0) colon (second (eqb (letter_of t) opposition_letter) (eqb (get_or t 1 0) colon) m)))
       (take-add 5 5 (drop 2 t) ∙ ap₂ (λ (x y : List ℕ). x ++ y) one (ap (take 5) (drop-drop 5 2 t) ∙ other))
 
-  opposition-sound : T (marked opposition_letter t) → opposition_at F h.oppositions t ≡ accepted e → EntryItem F h t e
+  opposition-sound : T (marked opposition_letter t) → opposition_at F h.oppositions t ≡ Ok e → EntryItem F h t e
   unfolding opposition_at opposition_of encoded_item encoded_opposition keeps_item keeps_opposition holding
   opposition-sound m q =
       let q1 = refuse-if-accepted _ _ _ e q in
@@ -510,7 +511,7 @@ module _ (F : Limits) (h : Held) (fitting : Fitting F h) (t : List ℕ) (bytes :
       }
 
 -- an accepted end record
-end-sound : (n : ℕ) (t : List ℕ) → Bytes t → T (marked end_letter t) → (e : Entry) → end_at n t ≡ accepted e → (end ≡ e) × (t ≡ encoded_end n)
+end-sound : (n : ℕ) (t : List ℕ) → Bytes t → T (marked end_letter t) → (e : Entry) → end_at n t ≡ Ok e → (end ≡ e) × (t ≡ encoded_end n)
 unfolding end_at encoded_end marked
 end-sound n t bytes m e q =
     let q1 = refuse-if-accepted _ _ _ e q in
@@ -546,19 +547,19 @@ file-cons F h t i size is here rest =
     }
 
 module _ (F : Limits) where
-  pub record-sound : (h : Held) → Fitting F h → (t : List ℕ) → Bytes t → (e : Entry) → record_at F h t ≡ accepted e
+  pub record-sound : (h : Held) → Fitting F h → (t : List ℕ) → Bytes t → (e : Entry) → record_at F h t ≡ Ok e
       → EntryItem F h t e ⊎ ((end ≡ e) × (t ≡ encoded_end h.rules))
   unfolding record_at marked_record
   record-sound h fitting t bytes e q = go (mark_at F t) refl (refuse-if-accepted _ _ _ e q).1
     where
-      go : (m : Mark) → mark_at F t ≡ m → marked_record F m h t ≡ accepted e → EntryItem F h t e ⊎ ((end ≡ e) × (t ≡ encoded_end h.rules))
+      go : (m : Mark) → mark_at F t ≡ m → marked_record F m h t ≡ Ok e → EntryItem F h t e ⊎ ((end ≡ e) × (t ≡ encoded_end h.rules))
       go (RuleMark d) w f = inl (rule-sound F h fitting t bytes e d (mark-rule F t d w) f)
       go OverrideMark w f = inl (override-sound F h fitting t bytes e (mark-override F t w) f)
       go OppositionMark w f = inl (opposition-sound F h fitting t bytes e (mark-opposition F t w) f)
       go EndMark w f = inr (end-sound h.rules t bytes (mark-end F t w) e f)
       go NoMark w f = absurd (refused-accepted f)
 
-  pub items-sound : (f : ℕ) (t : List ℕ) (at : ℕ) (h : Held) (is : List Item) → Bytes t → Fitting F h → items_from F f t at h ≡ accepted is → FileRead F h t is
+  pub items-sound : (f : ℕ) (t : List ℕ) (at : ℕ) (h : Held) (is : List Item) → Bytes t → Fitting F h → items_from F f t at h ≡ Ok is → FileRead F h t is
   unfolding items_from encoded_items held_on
   items-sound zero t at h is bytes room q = absurd (refused-accepted q)
   items-sound (suc f) t at h is bytes room q =
@@ -566,26 +567,26 @@ module _ (F : Limits) where
     where
       Rest : Type 0
       Rest =
-          (i : Item) (size : ℕ) → Fitting F (holding h i) → (w : List Item) → items_from F f (drop size t) (at + size) (holding h i) ≡ accepted w
+          (i : Item) (size : ℕ) → Fitting F (holding h i) → (w : List Item) → items_from F f (drop size t) (at + size) (holding h i) ≡ Ok w
           → FileRead F (holding h i) (drop size t) w
 
-      after_entry : Entry → Result (List Item)
-      after_entry e = elim e [ item i size ↦ and_then (items_from F f (drop size t) (at + size) (holding h i)) (λ w. accepted (i ∷ w)) | end ↦ accepted [] ]
+      after_entry : Entry → Answer (List Item)
+      after_entry e = elim e [ item i size ↦ and_then (items_from F f (drop size t) (at + size) (holding h i)) (λ w. Ok (i ∷ w)) | end ↦ Ok [] ]
 
-      after : Result Entry → Result (List Item)
-      after x = elim x [ refused y ↦ refused (shifted at y) | accepted e ↦ after_entry e ]
+      after : Answer Entry → Answer (List Item)
+      after x = elim x [ Err y ↦ Err (shifted at y) | Ok e ↦ after_entry e ]
 
-      entry : (e : Entry) → EntryItem F h t e ⊎ ((end ≡ e) × (t ≡ encoded_end h.rules)) → after_entry e ≡ accepted is → Rest → FileRead F h t is
+      entry : (e : Entry) → EntryItem F h t e ⊎ ((end ≡ e) × (t ≡ encoded_end h.rules)) → after_entry e ≡ Ok is → Rest → FileRead F h t is
       entry e (inl w) z ih =
           let i = w.item-read in
-          let z1 : after_entry (item w.item-read w.size) ≡ accepted is = subst (λ (y : Entry). after_entry y ≡ accepted is) (sym w.same) z in
-          let v = and-then-accepted (items_from F f (drop w.size t) (at + w.size) (holding h w.item-read)) (λ u. accepted (w.item-read ∷ u)) is z1 in
+          let z1 : after_entry (item w.item-read w.size) ≡ Ok is = subst (λ (y : Entry). after_entry y ≡ Ok is) (sym w.same) z in
+          let v = and-then-accepted (items_from F f (drop w.size t) (at + w.size) (holding h w.item-read)) (λ u. Ok (w.item-read ∷ u)) is z1 in
           let more = ih w.item-read w.size w.read.room v.0 v.1 in
           subst (FileRead F h t) (accepted-eq v.2) (file-cons F h t w.item-read w.size v.0 w.read more)
       entry e (inr w) z ih =
-          let z1 : after_entry end ≡ accepted is = subst (λ (y : Entry). after_entry y ≡ accepted is) (sym w.0) z in
+          let z1 : after_entry end ≡ Ok is = subst (λ (y : Entry). after_entry y ≡ Ok is) (sym w.0) z in
           subst (FileRead F h t) (accepted-eq z1) (record { bytes = w.1; keeps = tt; room = room })
 
-      go : (x : Result Entry) → record_at F h t ≡ x → after x ≡ accepted is → Rest → FileRead F h t is
-      go (refused y) w z ih = absurd (refused-accepted z)
-      go (accepted e) w z ih = entry e (record-sound h room t bytes e w) z ih
+      go : (x : Answer Entry) → record_at F h t ≡ x → after x ≡ Ok is → Rest → FileRead F h t is
+      go (Err y) w z ih = absurd (refused-accepted z)
+      go (Ok e) w z ih = entry e (record-sound h room t bytes e w) z ih

@@ -2,6 +2,7 @@
 -- In order: bytes that spell no option; bytes that spell one; what reading an option finds; two options, and their record.
 -- Assumes nothing.
 use Prim.Native.Nat.{ℕ, ◌+◌, ◌≤◌, ◌<◌}
+use Rattle.std.specs.Prelude.{Ok, Err}
 use native.Mathlib.Omega.{arith}
 use native.Mathlib.Nat.{add-zero}
 use mathlib.Core.Path.{◌≡◌, refl, sym, ◌∙◌, ap, ap₂}
@@ -22,7 +23,6 @@ use Rattle.literal.proofs.Laws.Literal.{decoded-fields, valid-some}
 use Rattle.semantics.specs.Set.{same_signed}
 use Rattle.record.specs.declared.Reason.TheVariants.{LiteralWrong}
 use Rattle.record.specs.Refusal.{refusal}
-use Rattle.record.specs.Result.{accepted, refused}
 use Rattle.record.specs.Reading.{signed_of, signed_at, opposition_at}
 use Rattle.record.specs.Code.{step_of}
 use Rattle.record.proofs.Laws.Header.{opposition-one, opposition-other, opposition-same, opposition-right}
@@ -52,11 +52,11 @@ signed-kind F t e =
 
 module _ (F : Limits) (t : List ℕ) (at : ℕ) where
   -- 5 where none is spelled
-  pub signed-wrong : is_signed (decoded F (drop at t)) ≡ false → signed_at F t at ≡ refused (refusal LiteralWrong at)
+  pub signed-wrong : is_signed (decoded F (drop at t)) ≡ false → signed_at F t at ≡ Err (refusal LiteralWrong at)
   unfolding signed_at signed_of is_signed
   signed-wrong e = go (decoded F (drop at t)) e
     where
-      go : (d : Decoded) → is_signed d ≡ false → signed_of d at ≡ refused (refusal LiteralWrong at)
+      go : (d : Decoded) → is_signed d ≡ false → signed_of d at ≡ Err (refusal LiteralWrong at)
       go (Valid (Signed a)) e = absurd (true≢false e)
       go (Valid (Defeated u a)) e = refl
       go (Valid (Derived u a)) e = refl
@@ -66,7 +66,7 @@ module _ (F : Limits) (t : List ℕ) (at : ℕ) where
   -- an option that is spelled there, with its kind and its atom
   pub record Here : Type 0 where
     pub option : SignedAtom
-    pub read : signed_at F t at ≡ accepted option
+    pub read : signed_at F t at ≡ Ok option
     pub of-kind : get_or t at 0 ≡ kind (Signed option)
     pub of-atom : number_at t (at + 3) ≡ atom_number option
 

@@ -2,6 +2,7 @@
 -- In order: where the record lies; the bytes there; what is shown, and what a refusal shows.
 -- Assumes nothing.
 use Prim.Native.Nat.{ℕ, ◌+◌}
+use Rattle.std.specs.Prelude.{Ok, Err}
 use native.Mathlib.Omega.{arith}
 use mathlib.Core.Path.{◌≡◌, refl, sym, ◌∙◌, ap, ap₂, subst}
 use mathlib.Core.Bool.{Bool, true, false, ◌&&◌}
@@ -18,18 +19,17 @@ use Rattle.semantics.proofs.Laws.Expansion.{rules-append}
 use Rattle.record.specs.declared.Reason.TheVariants.{NoSuchRule}
 use Rattle.record.specs.declared.Refusal.{Refusal}
 use Rattle.record.specs.Refusal.{refusal}
-use Rattle.record.specs.Result.{Result, accepted, refused}
+use Rattle.record.specs.Result.{Answer}
 use Rattle.record.specs.Layout.{encoded_rule, encoded_end, encoded_item, encoded_items, encoded_file}
 use Rattle.record.specs.Reading.{items}
 use Rattle.record.proofs.Laws.Layout.{encoded-items-append}
 use Rattle.record.proofs.Laws.Reading.{items-read}
 use Rattle.record_show.specs.declared.Extent.{Extent}
-use Rattle.record_show.specs.declared.Shown.{Shown}
 use Rattle.record_show.specs.Show.{extent_from, shown, shown_extent}
 use Rattle.record_show.proofs.Laws.Extent.{extent-behind}
 
 -- what one answer shows
-at-extent : {d e : Extent} → Shown.At d ≡ Shown.At e → d ≡ e
+at-extent : {d e : Extent} → ◌≡◌ {A = Answer Extent} (Ok d) (Ok e) → d ≡ e
 at-extent q = cc
 
 -- the bytes there
@@ -46,7 +46,7 @@ part-behind s tail before r after e =
     ∙ drop_at (encoded_items before) (encoded_rule r ++ rest) (length (encoded_items before)) refl)
     ∙ take-append_seam (encoded_rule r) rest
 
-module _ (F : Limits) (b : List ℕ) (before : List Item) (r : Rule) (after : List Item) (bytes : Bytes b) (read : items F b ≡ accepted (before ++ rule r ∷ after))
+module _ (F : Limits) (b : List ℕ) (before : List Item) (r : Rule) (after : List Item) (bytes : Bytes b) (read : items F b ≡ Ok (before ++ rule r ∷ after))
   where
     n : ℕ
     n = length (rules before) + 1
@@ -56,22 +56,22 @@ module _ (F : Limits) (b : List ℕ) (before : List Item) (r : Rule) (after : Li
     counted = ap length (rules-append before (rule r ∷ after)) ∙ omega (arith, length-append (rules before) (r ∷ rules after))
 
     -- r's record is found behind those of the items before it
-    pub shown-behind : shown F b (length (rules before) + 1) ≡ Shown.At (record { start = length (encoded_items before); size = length (encoded_rule r) })
+    pub shown-behind : shown F b (length (rules before) + 1) ≡ Ok (record { start = length (encoded_items before); size = length (encoded_rule r) })
     unfolding shown n
     shown-behind =
         ap shows read
         ∙ ap₂ (λ (x y : Bool). pick (before ++ rule r ∷ after) (x && y)) (le-leb 1 n (omega arith))
         (le-leb n (length (rules (before ++ rule r ∷ after))) (omega (arith, counted)))
-        ∙ ap Shown.At (extent-behind before r after n refl)
+        ∙ ap Ok (extent-behind before r after n refl)
       where
-        pick : List Item → Bool → Shown
-        pick is x = elim x [ true ↦ Shown.At (extent_from 0 is (length (rules before) + 1)) | false ↦ Shown.Refused (refusal NoSuchRule 0) ]
+        pick : List Item → Bool → Answer Extent
+        pick is x = elim x [ true ↦ Ok (extent_from 0 is (length (rules before) + 1)) | false ↦ Err (refusal NoSuchRule 0) ]
 
-        shows : Result (List Item) → Shown
-        shows q = elim q [ refused x ↦ Shown.Refused x | accepted is ↦ pick is (in_range (length (rules is)) (length (rules before) + 1)) ]
+        shows : Answer (List Item) → Answer Extent
+        shows q = elim q [ Err x ↦ Err x | Ok is ↦ pick is (in_range (length (rules is)) (length (rules before) + 1)) ]
 
     -- the part that is handed back is r's record
-    pub shown-record : (e : Extent) → shown F b (length (rules before) + 1) ≡ Shown.At e → take e.size (drop e.start b) ≡ encoded_rule r
+    pub shown-record : (e : Extent) → shown F b (length (rules before) + 1) ≡ Ok e → take e.size (drop e.start b) ≡ encoded_rule r
     unfolding encoded_file
     shown-record e q =
         subst (λ (x : Extent). take x.size (drop x.start b) ≡ encoded_rule r) same
@@ -81,6 +81,6 @@ module _ (F : Limits) (b : List ℕ) (before : List Item) (r : Rule) (after : Li
         same = at-extent (sym shown-behind ∙ q)
 
 -- a refusal shows nothing
-pub shown-nothing : (F : Limits) (b : List ℕ) (n : ℕ) (x : Refusal) → shown F b n ≡ Shown.Refused x → shown_extent (shown F b n) ≡ record { start = 0; size = 0 }
+pub shown-nothing : (F : Limits) (b : List ℕ) (n : ℕ) (x : Refusal) → shown F b n ≡ Err x → shown_extent (shown F b n) ≡ record { start = 0; size = 0 }
 unfolding shown_extent
 shown-nothing F b n x e = ap shown_extent e

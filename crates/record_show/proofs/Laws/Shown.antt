@@ -1,5 +1,6 @@
 -- Showing a record, from what reading answered. Assumes nothing.
 use Prim.Native.Nat.{ℕ, ◌+◌, ◌≤◌, ◌<◌}
+use Rattle.std.specs.Prelude.{Ok, Err}
 use native.Mathlib.Omega.{arith}
 use mathlib.Core.Path.{◌≡◌, refl, sym, ◌∙◌, ap, subst}
 use mathlib.Core.Bool.{Bool, true, false, ◌&&◌, and-false}
@@ -15,9 +16,8 @@ use Rattle.semantics.proofs.Laws.Tests.{first, second, along}
 use Rattle.record.specs.declared.Reason.TheVariants.{NoSuchRule}
 use Rattle.record.specs.declared.Refusal.{Refusal}
 use Rattle.record.specs.declared.Held.{Held}
-use Rattle.record.specs.declared.Holding.{Holding}
 use Rattle.record.specs.Refusal.{refusal}
-use Rattle.record.specs.Result.{Result, accepted, refused}
+use Rattle.record.specs.Result.{Answer}
 use Rattle.record.specs.Layout.{encoded_file}
 use Rattle.record.specs.Reading.{items, held_of, holding_of}
 use Rattle.record.specs.Code.{sheeted}
@@ -25,28 +25,27 @@ use Rattle.record.proofs.Laws.Unsheeted.{file-bytes, all-rules}
 use Rattle.record.proofs.Laws.Reading.{items-read, held_items, held-refused, none-sheeted}
 use Rattle.record_walk.specs.Code.{Holds, HoldsFile}
 use Rattle.record_show.specs.declared.Extent.{Extent}
-use Rattle.record_show.specs.declared.Shown.{Shown}
 use Rattle.record_show.specs.Show.{extent_from, shown}
 use Rattle.record_show.specs.Code.{Numbered, NumberedIn}
 use Rattle.record_show.proofs.Laws.Extent.{extent-fits}
 
 module _ (F : Limits) (s : List ℕ) (n : ℕ) where
-  numbered : List Item → Shown
-  numbered is = elim (in_range (length (rules is)) n) [ true ↦ Shown.At (extent_from 0 is n) | false ↦ Shown.Refused (refusal NoSuchRule 0) ]
+  numbered : List Item → Answer Extent
+  numbered is = elim (in_range (length (rules is)) n) [ true ↦ Ok (extent_from 0 is n) | false ↦ Err (refusal NoSuchRule 0) ]
 
-  show : Result (List Item) → Shown
-  show q = elim q [ refused x ↦ Shown.Refused x | accepted is ↦ numbered is ]
+  show : Answer (List Item) → Answer Extent
+  show q = elim q [ Err x ↦ Err x | Ok is ↦ numbered is ]
 
   -- read's refusal
-  pub shown-refused : (x : Refusal) → holding_of (items F s) ≡ Holding.Refused x → shown F s n ≡ Shown.Refused x
+  pub shown-refused : (x : Refusal) → holding_of (items F s) ≡ Err x → shown F s n ≡ Err x
   unfolding shown show numbered
   shown-refused x e = ap show (held-refused (items F s) x e)
 
-  module _ (h : Held) (read : holding_of (items F s) ≡ Holding.All h) where
+  module _ (h : Held) (read : holding_of (items F s) ≡ Ok h) where
     is : List Item
     is = (held_items (items F s) h read).0
 
-    items-are : items F s ≡ accepted is
+    items-are : items F s ≡ Ok is
     unfolding is
     items-are = (held_items (items F s) h read).1
 
@@ -63,36 +62,36 @@ module _ (F : Limits) (s : List ℕ) (n : ℕ) where
     shown-numbered = ap show items-are
 
     -- 13: there is no rule of this number
-    pub shown-zero : n ≡ 0 → shown F s n ≡ Shown.Refused (refusal NoSuchRule 0)
+    pub shown-zero : n ≡ 0 → shown F s n ≡ Err (refusal NoSuchRule 0)
     unfolding numbered
     shown-zero e = shown-numbered ∙ ap (λ (m : ℕ). pick (leb 1 m && leb n (length (rules is)))) e
       where
-        pick : Bool → Shown
-        pick b = elim b [ true ↦ Shown.At (extent_from 0 is n) | false ↦ Shown.Refused (refusal NoSuchRule 0) ]
+        pick : Bool → Answer Extent
+        pick b = elim b [ true ↦ Ok (extent_from 0 is n) | false ↦ Err (refusal NoSuchRule 0) ]
 
-    pub shown-above : h.rules < n → shown F s n ≡ Shown.Refused (refusal NoSuchRule 0)
+    pub shown-above : h.rules < n → shown F s n ≡ Err (refusal NoSuchRule 0)
     unfolding numbered
     shown-above above =
         shown-numbered ∙ ap (λ (b : Bool). pick (leb 1 n && b)) (lt-leb n (length (rules is)) (omega (arith, count-is))) ∙ ap pick (and-false (leb 1 n))
       where
-        pick : Bool → Shown
-        pick b = elim b [ true ↦ Shown.At (extent_from 0 is n) | false ↦ Shown.Refused (refusal NoSuchRule 0) ]
+        pick : Bool → Answer Extent
+        pick b = elim b [ true ↦ Ok (extent_from 0 is n) | false ↦ Err (refusal NoSuchRule 0) ]
 
     -- the record of rule n, in a file that has one
     module _ (bytes : Bytes s) (one : 1 ≤ n) (most : n ≤ h.rules) where
-      shown-extent : shown F s n ≡ Shown.At (extent_from 0 is n)
+      shown-extent : shown F s n ≡ Ok (extent_from 0 is n)
       unfolding numbered
       shown-extent =
           shown-numbered ∙ ap (λ (b : Bool). pick (b && leb n (length (rules is)))) (le-leb 1 n one)
           ∙ ap pick (le-leb n (length (rules is)) (omega (arith, count-is)))
         where
-          pick : Bool → Shown
-          pick b = elim b [ true ↦ Shown.At (extent_from 0 is n) | false ↦ Shown.Refused (refusal NoSuchRule 0) ]
+          pick : Bool → Answer Extent
+          pick b = elim b [ true ↦ Ok (extent_from 0 is n) | false ↦ Err (refusal NoSuchRule 0) ]
 
       pub given-file : HoldsFile (NumberedIn n) s
       given-file = record { items = is; bytes = (items-read F s is bytes items-are).0; asked = record { one = one; most = omega (arith, count-is) } }
 
-      pub shown-file : shown F s n ≡ Shown.At (extent_from 0 given-file.items n)
+      pub shown-file : shown F s n ≡ Ok (extent_from 0 given-file.items n)
       unfolding given-file
       shown-file = shown-extent
 
@@ -110,12 +109,12 @@ module _ (F : Limits) (s : List ℕ) (n : ℕ) where
               asked = record { one = one; most = omega (arith, count-is) };
             }
 
-        pub shown-given : shown F s n ≡ Shown.At (extent_from 0 (map rule given.program) n)
+        pub shown-given : shown F s n ≡ Ok (extent_from 0 (map rule given.program) n)
         unfolding given
-        shown-given = shown-extent ∙ ap (λ (js : List Item). Shown.At (extent_from 0 js n)) all
+        shown-given = shown-extent ∙ ap (λ (js : List Item). Ok (extent_from 0 js n)) all
 
 -- the record that is shown lies in the slice
-in-slice : (F : Limits) (s : List ℕ) (n : ℕ) (is : List Item) → Bytes s → items F s ≡ accepted is → T (in_range (length (rules is)) n)
+in-slice : (F : Limits) (s : List ℕ) (n : ℕ) (is : List Item) → Bytes s → items F s ≡ Ok is → T (in_range (length (rules is)) n)
     → (extent_from 0 is n).start + (extent_from 0 is n).size ≤ length s
 in-slice F s n is bytes e k =
     let numbered : NumberedIn n is = record {
@@ -124,22 +123,22 @@ in-slice F s n is bytes e k =
     } in
     omega (arith, extent-fits n is numbered, ap length (items-read F s is bytes e).0)
 
-pub shown-fits : (F : Limits) (s : List ℕ) (n : ℕ) (e : Extent) → Bytes s → shown F s n ≡ Shown.At e → e.start + e.size ≤ length s
+pub shown-fits : (F : Limits) (s : List ℕ) (n : ℕ) (e : Extent) → Bytes s → shown F s n ≡ Ok e → e.start + e.size ≤ length s
 unfolding shown
 shown-fits F s n e bytes q = go (items F s) refl q
   where
-    pick : List Item → Bool → Shown
-    pick is b = elim b [ true ↦ Shown.At (extent_from 0 is n) | false ↦ Shown.Refused (refusal NoSuchRule 0) ]
+    pick : List Item → Bool → Answer Extent
+    pick is b = elim b [ true ↦ Ok (extent_from 0 is n) | false ↦ Err (refusal NoSuchRule 0) ]
 
-    shows : Result (List Item) → Shown
-    shows r = elim r [ refused x ↦ Shown.Refused x | accepted is ↦ pick is (in_range (length (rules is)) n) ]
+    shows : Answer (List Item) → Answer Extent
+    shows r = elim r [ Err x ↦ Err x | Ok is ↦ pick is (in_range (length (rules is)) n) ]
 
-    picked : (is : List Item) (b : Bool) → in_range (length (rules is)) n ≡ b → items F s ≡ accepted is → pick is b ≡ Shown.At e → e.start + e.size ≤ length s
+    picked : (is : List Item) (b : Bool) → in_range (length (rules is)) n ≡ b → items F s ≡ Ok is → pick is b ≡ Ok e → e.start + e.size ≤ length s
     picked is true i w f =
         let same : extent_from 0 is n ≡ e = cc in
         subst (λ (x : Extent). x.start + x.size ≤ length s) same (in-slice F s n is bytes w (along (sym i) tt))
     picked is false i w f = let z : ◌≡◌ {A = ℕ} 0 1 = cc in absurd (omega arith)
 
-    go : (r : Result (List Item)) → items F s ≡ r → shows r ≡ Shown.At e → e.start + e.size ≤ length s
-    go (refused x) w f = let z : ◌≡◌ {A = ℕ} 0 1 = cc in absurd (omega arith)
-    go (accepted is) w f = picked is (in_range (length (rules is)) n) refl w f
+    go : (r : Answer (List Item)) → items F s ≡ r → shows r ≡ Ok e → e.start + e.size ≤ length s
+    go (Err x) w f = let z : ◌≡◌ {A = ℕ} 0 1 = cc in absurd (omega arith)
+    go (Ok is) w f = picked is (in_range (length (rules is)) n) refl w f

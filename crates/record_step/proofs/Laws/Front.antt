@@ -1,8 +1,8 @@
--- Laws of what stands before a record's literals: a told step is no rule's, and marks are the form's.
--- In order: a refusal; the end; how marks and letters start a record; a header and its record; which of the three was found; what literals
--- come to.
+-- Laws of what stands before a record's literals: marks are the form's.
+-- In order: how marks and letters start a record; a header and its record; what was found; what literals come to.
 -- Assumes nothing.
 use Prim.Native.Nat.{ℕ}
+use Rattle.std.specs.Prelude.{Ok, Err}
 use native.Mathlib.Omega.{arith}
 use mathlib.Core.Path.{◌≡◌, refl, sym, ap, ap₂, subst, ◌∙◌}
 use mathlib.Core.Bool.{Bool, true, false, ◌&&◌, and-false}
@@ -15,34 +15,16 @@ use Rattle.semantics.specs.Item.{rule}
 use Rattle.record.specs.declared.Refusal.{Refusal}
 use Rattle.record.specs.declared.Step.{Step}
 use Rattle.record.specs.Header.{strict_letter, defeasible_letter, end_letter, override_letter, opposition_letter, head_count, positive_count, naf_count}
-use Rattle.record.specs.Result.{Result, accepted}
-use Rattle.record.specs.Reading.{Mark, RuleMark, OverrideMark, OppositionMark, EndMark, NoMark, Entry, item, body_at, end_at, marked, pick_mark, mark_at, is_rule}
+use Rattle.record.specs.Result.{Answer, and_then}
+use Rattle.record.specs.Reading.{Mark, RuleMark, OverrideMark, OppositionMark, EndMark, NoMark, Entry, item, body_at, end_at, marked, pick_mark, mark_at, is_rule, entry_size}
 use Rattle.record.specs.Code.{step_of}
 use Rattle.record.proofs.Laws.Marks.{letter_mark}
 use Rattle.record.proofs.Laws.Result.{accepted-eq, refuse-if-accepted}
 use Rattle.record.proofs.Laws.Program.{step-rule}
+use Rattle.record.proofs.Laws.Only.{same-size, body-ruled, body_refused}
 use Rattle.record_step.specs.declared.Opening.{Opening}
 use Rattle.record_step.specs.declared.Front.{Front}
-use Rattle.record_step.specs.Code.{opening, StepTold, LiteralsLeft, OtherLeft, FrontAt}
-
--- a refusal is no rule
-pub told-refused : (e : Result Entry) (x : Step) (y : Refusal) → x ≡ Step.Refused y → step_of e ≡ Step.Refused y → StepTold e x
-told-refused e x y r p = record { step = p ∙ sym r; unruled = λ size q. let z : ◌≡◌ {A = ℕ} 0 1 = cc in omega (arith, z) }
-
--- a step that comes to no rule's entry is none
-told-other : (e f : Result Entry) (x : Step) → x ≡ step_of f → step_of e ≡ step_of f → ((r : Rule) (size : ℕ) → f ≡ accepted (item (rule r) size) → ⊥) → StepTold e x
-told-other e f x q p none =
-    record { step = p ∙ sym q; unruled = λ size z. let w = step-rule f size (sym q ∙ z) in none w.0 size w.1 }
-
--- the end record comes to none
-pub told-end : (n : ℕ) (t : List ℕ) (e : Result Entry) (x : Step) → x ≡ step_of (end_at n t) → step_of e ≡ step_of (end_at n t) → StepTold e x
-unfolding end_at
-told-end n t e x q p =
-    told-other e (end_at n t) x q p (λ r size w.
-    let whole = refuse-if-accepted _ _ _ (item (rule r) size) w in
-    let same = accepted-eq (refuse-if-accepted _ _ _ (item (rule r) size) whole.1).1 in
-    let z : ◌≡◌ {A = ℕ} 0 1 = cc in
-    omega (arith, z))
+use Rattle.record_step.specs.Code.{opening, LiteralsLeft, OtherLeft, FrontAt}
 
 -- a record that starts as a rule's or the end has that mark
 pub opens-rule : (m : Mark) (d : Bool) → opening m ≡ Opening.Rule d → m ≡ RuleMark d
@@ -142,23 +124,38 @@ mark-form F t d e plain =
     go false false false false q = let z : ◌≡◌ {A = ℕ} 0 1 = cc in absurd (omega (arith, z))
 
 -- what is found in a rule's header is found in its record
-pub front_same : (F : Limits) (t : List ℕ) (e f : Result Entry) → step_of f ≡ step_of e → (r : Front) → FrontAt F t e r → FrontAt F t f r
-front_same F t e f p (Front.Told x) w = record { step = p ∙ w.step; unruled = w.unruled }
-front_same F t e f p (Front.Literals d) w = record { whole = w.whole; step = p ∙ w.step; form = w.form }
-front_same F t e f p Front.Other w = w
+pub front_same : (F : Limits) (t : List ℕ) (e f : Answer Entry) → step_of f ≡ step_of e → (r : Answer Front) → FrontAt F t e r → FrontAt F t f r
+front_same F t e f p (Err x) w = p ∙ w
+front_same F t e f p (Ok Front.End) w = p ∙ w
+front_same F t e f p (Ok (Front.Literals d)) w = record { whole = w.whole; step = p ∙ w.step; form = w.form }
+front_same F t e f p (Ok Front.Other) w = w
 
--- what was found, by which of the three it is
-module _ (F : Limits) (t : List ℕ) (e : Result Entry) (r : Front) where
-  pub front-told : (x : Step) → r ≡ Front.Told x → FrontAt F t e r → StepTold e x
-  front-told x q w = subst (FrontAt F t e) q w
+-- a refusal is found of a record that is refused so
+pub front-refuses : (F : Limits) (t : List ℕ) (e : Answer Entry) (r : Answer Front) (x : Refusal) → r ≡ Err x → step_of e ≡ Err x → FrontAt F t e r
+front-refuses F t e r x q p = subst (FrontAt F t e) (sym q) p
 
-  pub front-literals : (d : Bool) → r ≡ Front.Literals d → FrontAt F t e r → LiteralsLeft F t e d
+-- what was found, by which it is
+module _ (F : Limits) (t : List ℕ) (e : Answer Entry) (r : Answer Front) where
+  pub front-refused : (x : Refusal) → r ≡ Err x → FrontAt F t e r → step_of e ≡ Err x
+  front-refused x q w = subst (FrontAt F t e) q w
+
+  pub front-end : r ≡ Ok Front.End → FrontAt F t e r → step_of e ≡ Ok Step.End
+  front-end q w = subst (FrontAt F t e) q w
+
+  pub front-literals : (d : Bool) → r ≡ Ok (Front.Literals d) → FrontAt F t e r → LiteralsLeft F t e d
   front-literals d q w = subst (FrontAt F t e) q w
 
-  pub front-other : r ≡ Front.Other → FrontAt F t e r → OtherLeft F t
+  pub front-other : r ≡ Ok Front.Other → FrontAt F t e r → OtherLeft F t
   front-other q w = subst (FrontAt F t e) q w
 
--- what the literals come to, the record does
-pub literals-step : (F : Limits) (t : List ℕ) (e : Result Entry) (d : Bool) → LiteralsLeft F t e d → (x : Step)
-    → x ≡ step_of (body_at F d t (head_count t) (positive_count t) (naf_count t)) → x ≡ step_of e
-literals-step F t e d w x q = q ∙ sym w.step
+-- how long the literals make a record, so long it is; a right one is a rule's, and a wrong one is refused so
+module _ (F : Limits) (t : List ℕ) (e : Answer Entry) (d : Bool) (w : LiteralsLeft F t e d) (x : Answer ℕ)
+    (told : x ≡ and_then (body_at F d t (head_count t) (positive_count t) (naf_count t)) entry_size) where
+  pub literals-size : x ≡ and_then e entry_size
+  literals-size = told ∙ same-size _ _ (sym w.step)
+
+  pub literals-rule : (size : ℕ) → x ≡ Ok size → step_of e ≡ Ok (Step.Rule size)
+  literals-rule size q = w.step ∙ body-ruled F d t (head_count t) (positive_count t) (naf_count t) size (sym told ∙ q)
+
+  pub literals-refused : (y : Refusal) → x ≡ Err y → step_of e ≡ Err y
+  literals-refused y q = w.step ∙ body_refused F d t (head_count t) (positive_count t) (naf_count t) y (sym told ∙ q)

@@ -39,6 +39,13 @@ module _ (s : List ℕ) where
       back : n ≡ suc n - 1
       back = omega arith
 
+  -- what is left of a record's n options behind the first i: the next option, and those behind it
+  pub options-next : (i n : ℕ) → i < n
+      → options_at s (7 + 5 * i) (n - i) ≡ option_at s (7 + 5 * i) ∷ options_at s (7 + 5 * (i + 1)) (n - (i + 1))
+  options-next i n h =
+      options-first (7 + 5 * i) (n - i) (omega arith)
+      ∙ ap₂ (λ (at k : ℕ). option_at s (7 + 5 * i) ∷ options_at s at k) (omega arith) (omega arith)
+
   -- no option left
   pub options-none : (at n : ℕ) → n ≤ 0 → options_at s at n ≡ []
   unfolding options_at

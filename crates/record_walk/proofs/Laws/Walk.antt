@@ -4,6 +4,7 @@
 -- start, a rule more, the end.
 -- Assumes nothing.
 use Prim.Native.Nat.{ℕ, ◌+◌, ◌≤◌, ◌<◌}
+use Rattle.std.specs.Prelude.{Ok}
 use native.Mathlib.Omega.{arith}
 use native.Mathlib.Nat.{add-zero}
 use mathlib.Core.Path.{◌≡◌, refl, sym, ◌∙◌, ap, subst}
@@ -21,14 +22,13 @@ use Rattle.semantics.proofs.Laws.Tests.{first, second, along, all_append}
 use Rattle.record.specs.Header.{end_letter, letter_of}
 use Rattle.record.specs.Layout.{encoded_rule, encoded_rules, encoded_end, encoded_program, keeps}
 use Rattle.record.specs.Reading.{parsed}
-use Rattle.record.specs.Result.{accepted}
 use Rattle.record.proofs.Laws.Layout.{length-encoded-rule, encoded-rules-append, length-end}
 use Rattle.record.proofs.Laws.Reading.{parsed-sound}
 use Rattle.record_walk.specs.Code.{Holds, record_size, Starts}
 use Rattle.record_walk.proofs.Laws.Fields.{strict-fields, defeasible-fields, record-size}
 
 -- what was read in a form without sheets is the encoding of its program, which keeps the form's limits
-abbrev pub holds_read : (P : Program → Type 0) (F : Limits) → F.sheets ≡ 0 → (s : List ℕ) (p : Program) → Bytes s → parsed F s ≡ accepted p
+abbrev pub holds_read : (P : Program → Type 0) (F : Limits) → F.sheets ≡ 0 → (s : List ℕ) (p : Program) → Bytes s → parsed F s ≡ Ok p
     → (T (keeps F p) → P p) → Holds P s
 holds_read P F none s p bytes read asked =
     let sound = parsed-sound F none s p bytes read in

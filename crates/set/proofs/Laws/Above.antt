@@ -1,6 +1,7 @@
 -- What reading the literals of a set accepts: a run of the form's literals, each above the one before; and the way back.
 -- In order: literals above a key; literals that are accepted; literals in ascending order are accepted. Assumes nothing.
 use Prim.Native.Nat.{ℕ, zero, suc, ◌+◌, ◌*◌, ◌≤◌}
+use Rattle.std.specs.Prelude.{Ok, Err}
 use native.Mathlib.Omega.{arith}
 use mathlib.Core.Path.{◌≡◌, refl, sym, ◌∙◌, ap, subst}
 use mathlib.Core.Bool.{Bool, true, false, ◌&&◌}
@@ -22,7 +23,7 @@ use Rattle.semantics.specs.Set.{each_of}
 use Rattle.semantics.proofs.Laws.Tests.{both, first, second, is_true}
 use Rattle.record.specs.declared.Reason.TheVariants.{LiteralWrong}
 use Rattle.record.specs.Refusal.{refusal}
-use Rattle.record.specs.Result.{Result, accepted, refused, and_then}
+use Rattle.record.specs.Result.{Answer, and_then}
 use Rattle.record.specs.Layout.{encoded_literals}
 use Rattle.record.specs.Reading.{literals_at}
 use Rattle.record.proofs.Laws.Result.{refused-accepted, accepted-eq, and-then-accepted, accepted-and-then}
@@ -50,18 +51,18 @@ ascending-above F (l ∷ ls) t =
 module _ (F : Limits) (s : List ℕ) (bytes : Bytes s) where
   -- a literal at the head of a run
   literals-right : (at n : ℕ) (l : Literal) → decoded F (drop at s) ≡ Valid l
-      → literals_at F s at (suc n) ≡ and_then (literals_at F s (at + 5) n) (λ ls. accepted (l ∷ ls))
+      → literals_at F s at (suc n) ≡ and_then (literals_at F s (at + 5) n) (λ ls. Ok (l ∷ ls))
   unfolding literals_at
   literals-right at n l e =
-      ap (λ d. elim d as (λ x. Result (List Literal)) [
+      ap (λ d. elim d as (λ x. Answer (List Literal)) [
         | Valid m ↦ and_then (literals_at F s (at + 5) n)
-            (λ ls. accepted (m ∷ ls))
-        | Wrong ↦ refused (refusal LiteralWrong at)
+            (λ ls. Ok (m ∷ ls))
+        | Wrong ↦ Err (refusal LiteralWrong at)
       ]) e
 
   -- the literals that are accepted
   pub members-sound : (n at : ℕ) (last : List ℕ) (k : ℕ) (ls : List Literal) → Alike F last k → at + 5 * n ≤ length s
-      → members_at F s at last n ≡ accepted ls → (literals_at F s at n ≡ accepted ls) × T (above k ls)
+      → members_at F s at last n ≡ Ok ls → (literals_at F s at n ≡ Ok ls) × T (above k ls)
   unfolding members_at literals_at
   members-sound zero at last k ls alike fits e = (e, subst (λ (ms : List Literal). T (above k ms)) (accepted-eq e) tt)
   members-sound (suc n) at last k ls alike fits e =
@@ -75,34 +76,34 @@ module _ (F : Limits) (s : List ℕ) (bytes : Bytes s) where
       five = omega (arith, length-drop at s)
 
       go : (d : Decoded) → decoded F (drop at s) ≡ d → (b : Bool) → bytes_before last (take 5 (drop at s)) ≡ b
-          → ((ms : List Literal) → members_at F s (at + 5) (take 5 (drop at s)) n ≡ accepted ms
-          → (literals_at F s (at + 5) n ≡ accepted ms) × T (above (key_at (drop at s)) ms))
-          → (literals_at F s at (suc n) ≡ accepted ls) × T (above k ls)
+          → ((ms : List Literal) → members_at F s (at + 5) (take 5 (drop at s)) n ≡ Ok ms
+          → (literals_at F s (at + 5) n ≡ Ok ms) × T (above (key_at (drop at s)) ms))
+          → (literals_at F s at (suc n) ≡ Ok ls) × T (above k ls)
       go Wrong q b r ih = absurd (refused-accepted (sym (members-wrong F s at last n q) ∙ e))
       go (Valid l) q false r ih = absurd (refused-accepted (sym (members-low F s at last n l q r) ∙ e))
       go (Valid l) q true r ih =
-          let w = and-then-accepted (members_at F s (at + 5) (take 5 (drop at s)) n) (λ ms. accepted (l ∷ ms)) ls
+          let w = and-then-accepted (members_at F s (at + 5) (take 5 (drop at s)) n) (λ ms. Ok (l ∷ ms)) ls
           (sym (members-right F s at last n l q r) ∙ e) in
           let rest = ih w.0 w.1 in
           let same = key_at-decoded F (drop at s) l here five q in
           let higher = ap (ltb k) (sym same) ∙ sym (alike (drop at s) l here five q) ∙ r in (
-            literals-right at n l q ∙ ap (λ (x : Result (List Literal)). and_then x (λ ms. accepted (l ∷ ms))) rest.0
-                ∙ accepted-and-then w.0 (λ ms. accepted (l ∷ ms)) ∙ w.2,
+            literals-right at n l q ∙ ap (λ (x : Answer (List Literal)). and_then x (λ ms. Ok (l ∷ ms))) rest.0
+                ∙ accepted-and-then w.0 (λ ms. Ok (l ∷ ms)) ∙ w.2,
             subst (λ (ms : List Literal). T (above k ms)) (accepted-eq w.2)
                 (both (ltb k (key l)) (above (key l) w.0) (subst T (sym higher) tt) (subst (λ (i : ℕ). T (above i w.0)) same rest.1)),
           )
 
   -- ascending literals of the form are accepted
   pub members-complete : (ls : List Literal) (at : ℕ) (last : List ℕ) (k : ℕ) (rest : List ℕ) → Alike F last k → T (each_of (takes F) ls) → T (above k ls)
-      → drop at s ≡ encoded_literals ls ++ rest → members_at F s at last (length ls) ≡ accepted ls
+      → drop at s ≡ encoded_literals ls ++ rest → members_at F s at last (length ls) ≡ Ok ls
   unfolding members_at encoded_literals
   members-complete [] at last k rest alike t u e = refl
   members-complete (l ∷ ls) at last k rest alike t u e =
       members-right F s at last (length ls) l valid higher
-      ∙ ap (λ (x : Result (List Literal)). and_then x (λ ms. accepted (l ∷ ms)))
+      ∙ ap (λ (x : Answer (List Literal)). and_then x (λ ms. Ok (l ∷ ms)))
       (members-complete ls (at + 5) (take 5 (drop at s)) (key_at (drop at s)) rest (alike_next F (drop at s) (bytes_drop at s bytes) five)
       (second (takes F l) (each_of (takes F) ls) t) (subst (λ (i : ℕ). T (above i ls)) (sym same) (second (ltb k (key l)) (above (key l) ls) u)) behind)
-      ∙ accepted-and-then ls (λ ms. accepted (l ∷ ms))
+      ∙ accepted-and-then ls (λ ms. Ok (l ∷ ms))
     where
       here : drop at s ≡ encoded l ++ (encoded_literals ls ++ rest)
       here = e ∙ append_assoc (encoded l) (encoded_literals ls) rest

@@ -1,5 +1,6 @@
 -- What reading a set answers, by the tests that led there. Assumes nothing.
 use Prim.Native.Nat.{ℕ, ◌≤◌, ◌<◌}
+use Rattle.std.specs.Prelude.{Ok, Err}
 use native.Mathlib.Omega.{arith}
 use mathlib.Core.Path.{◌≡◌, refl, sym, ◌∙◌, ap}
 use mathlib.Core.Bool.{true, false, not}
@@ -12,10 +13,8 @@ use Rattle.literal.specs.declared.Limits.{Limits}
 use Rattle.literal.specs.declared.Literal.{Literal}
 use Rattle.record.specs.declared.Reason.TheVariants.{SetWrong, SetTooLarge}
 use Rattle.record.specs.declared.Refusal.{Refusal}
-use Rattle.record.specs.declared.Run.{Run}
-use Rattle.record.specs.declared.Reading.{Reading}
 use Rattle.record.specs.Refusal.{refusal}
-use Rattle.record.specs.Result.{Result, accepted, refused}
+use Rattle.record.specs.Result.{Answer}
 use Rattle.record.specs.Code.{run_of}
 use Rattle.record.specs.Reading.{reading_of}
 use Rattle.record.proofs.Laws.Result.{refuse-if-true, refuse-if-false}
@@ -27,27 +26,24 @@ use Rattle.set.proofs.Laws.Order.{alike-first, above-members}
 use Rattle.set.proofs.Laws.Above.{members-sound}
 
 -- a run's answer is the set's
-run-refused : (r : Result (List Literal)) (x : Refusal) → run_of r ≡ Run.Refused x → reading_of r ≡ Reading.Refused x
+run-refused : (r : Answer (List Literal)) (x : Refusal) → run_of r ≡ Err x → reading_of r ≡ Err x
 unfolding run_of reading_of
-run-refused (accepted ls) x e = absurd (let z : ◌≡◌ {A = ℕ} 0 1 = cc in omega arith)
-run-refused (refused y) x e = ap Reading.Refused (same e)
-  where
-    same : Run.Refused y ≡ Run.Refused x → y ≡ x
-    same q = cc
+run-refused (Ok ls) x e = absurd (let z : ◌≡◌ {A = ℕ} 0 1 = cc in omega arith)
+run-refused (Err y) x e = let same : y ≡ x = cc in ap Err same
 
-run-right : (r : Result (List Literal)) (n : ℕ) → run_of r ≡ Run.Right → ((ls : List Literal) → r ≡ accepted ls → length ls ≡ n) → reading_of r ≡ Reading.Count n
+run-right : (r : Answer (List Literal)) (n : ℕ) → run_of r ≡ Ok tt → ((ls : List Literal) → r ≡ Ok ls → length ls ≡ n) → reading_of r ≡ Ok n
 unfolding run_of reading_of
-run-right (accepted ls) n e h = ap Reading.Count (h ls refl)
-run-right (refused x) n e h = absurd (let z : ◌≡◌ {A = ℕ} 0 1 = cc in omega arith)
+run-right (Ok ls) n e h = ap Ok (h ls refl)
+run-right (Err x) n e h = absurd (let z : ◌≡◌ {A = ℕ} 0 1 = cc in omega arith)
 
 module _ (F : Limits) (most : ℕ) (s : List ℕ) where
   -- 10
-  pub answer-wrong : set_shape s ≡ false → set_reading F most s ≡ Reading.Refused (refusal SetWrong 0)
+  pub answer-wrong : set_shape s ≡ false → set_reading F most s ≡ Err (refusal SetWrong 0)
   unfolding set_reading parsed_set reading_of
   answer-wrong e = ap reading_of (refuse-if-true (not (set_shape s)) (refusal SetWrong 0) _ (ap not e))
 
   -- 12
-  pub answer-large : set_shape s ≡ true → most < number_at s 2 → set_reading F most s ≡ Reading.Refused (refusal SetTooLarge 0)
+  pub answer-large : set_shape s ≡ true → most < number_at s 2 → set_reading F most s ≡ Err (refusal SetTooLarge 0)
   unfolding set_reading parsed_set reading_of
   answer-large e h =
       ap reading_of
@@ -68,14 +64,14 @@ module _ (F : Limits) (most : ℕ) (s : List ℕ) where
     way = above-members F s bytes (number_at s 2) 4 [] 0 (alike-first F) (omega (arith, (shaped s e).whole))
 
     -- 11
-    pub answer-member : (x : Refusal) → members_above F s 4 0 (number_at s 2) ≡ Run.Refused x → set_reading F most s ≡ Reading.Refused x
+    pub answer-member : (x : Refusal) → members_above F s 4 0 (number_at s 2) ≡ Err x → set_reading F most s ≡ Err x
     answer-member x r = answer-members ∙ run-refused (members_at F s 4 [] (number_at s 2)) x (sym way ∙ r)
 
     -- accepted
-    pub answer-right : members_above F s 4 0 (number_at s 2) ≡ Run.Right → set_reading F most s ≡ Reading.Count (number_at s 2)
+    pub answer-right : members_above F s 4 0 (number_at s 2) ≡ Ok tt → set_reading F most s ≡ Ok (number_at s 2)
     answer-right r = answer-members ∙ run-right (members_at F s 4 [] (number_at s 2)) (number_at s 2) (sym way ∙ r) count
       where
-        count : (ls : List Literal) → members_at F s 4 [] (number_at s 2) ≡ accepted ls → length ls ≡ number_at s 2
+        count : (ls : List Literal) → members_at F s 4 [] (number_at s 2) ≡ Ok ls → length ls ≡ number_at s 2
         count ls m =
             let fits = (shaped s e).whole in
             let w = members-sound F s bytes (number_at s 2) 4 [] 0 ls (alike-first F) (omega (arith, fits)) m in

@@ -2,6 +2,7 @@
 -- In order: the keys of encoded literals; the set of keys against the set of literals; the search's needs; both of a set that was read.
 -- Assumes nothing.
 use Prim.Native.Nat.{ℕ, zero, suc, ◌+◌, ◌*◌, ◌≤◌, ◌<◌}
+use Rattle.std.specs.Prelude.{Ok}
 use native.Mathlib.Omega.{arith}
 use mathlib.Core.Path.{◌≡◌, refl, sym, ◌∙◌, ap, ap₂, subst}
 use mathlib.Core.Bool.{Bool, ◌||◌}
@@ -21,7 +22,6 @@ use Rattle.literal.proofs.Laws.Order.{key_at-encoded, key-injective}
 use Rattle.semantics.specs.Set.{some_of, same_literal, set_of}
 use Rattle.semantics.proofs.Laws.Tests.{Each, each-mem, first, second, along, same_test, any-agree}
 use Rattle.semantics.proofs.Laws.Set.{same-literal-eq, same-literal-refl}
-use Rattle.record.specs.Result.{accepted}
 use Rattle.record.specs.Layout.{encoded_literals}
 use Rattle.record.proofs.Laws.Fit.{literals-fit}
 use Rattle.set.specs.Layout.{encoded_set}
@@ -104,7 +104,7 @@ unfolding has_key
 keys-agree s ls bytes lie l fit =
     has-key-any s (key l) ls 4 lie ∙ any-agree ls (λ m i. same_key l m fit (each-mem Fits (members-fit s ls bytes lie) i))
 
-module _ (F : Limits) (most : ℕ) (s : List ℕ) (ls : List Literal) (bytes : Bytes s) (e : parsed_set F most s ≡ accepted ls) where
+module _ (F : Limits) (most : ℕ) (s : List ℕ) (ls : List Literal) (bytes : Bytes s) (e : parsed_set F most s ≡ Ok ls) where
   -- the literals of the set lie behind its count
   pub literals-lie : drop 4 s ≡ encoded_literals ls
   unfolding encoded_set

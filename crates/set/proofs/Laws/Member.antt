@@ -1,6 +1,6 @@
 -- Laws of a run of literals and a set: whether one of them is in it.
 -- In order: one by one; literals that stand in a slice. Assumes nothing.
-use Prim.Native.Nat.{ℕ, zero, suc, ◌+◌, ◌-◌, ◌≤◌, ◌<◌}
+use Prim.Native.Nat.{ℕ, zero, suc, ◌+◌, ◌*◌, ◌-◌, ◌≤◌, ◌<◌}
 use native.Mathlib.Omega.{arith}
 use mathlib.Core.Path.{◌≡◌, refl, sym, ◌∙◌, ap, ap₂}
 use mathlib.Core.Bool.{Bool, true, false, ◌||◌}
@@ -31,6 +31,15 @@ module _ (s : List ℕ) (n : ℕ) (t : List ℕ) where
     where
       back : m ≡ suc m - 1
       back = omega arith
+
+  -- of m literals from `at` on, number i is not, behind others that are not
+  pub any-key-step : (m i at : ℕ) → i < m → has_key s n (key_at (drop (at + 5 * i) t)) ≡ false
+      → any_key s n (m - i) t (at + 5 * i) ≡ any_key s n (m - (i + 1)) t (at + 5 * (i + 1))
+  any-key-step m i at l e =
+      any-key-next (m - i) (at + 5 * i) (omega arith) e ∙ ap₂ (λ (j k : ℕ). any_key s n j t k) (omega arith) (omega arith)
+
+  pub any-key-start : (m at : ℕ) → any_key s n m t at ≡ any_key s n (m - 0) t (at + 5 * 0)
+  any-key-start m at = ap₂ (λ (j k : ℕ). any_key s n j t k) (omega arith) (omega arith)
 
   -- none is left
   pub any-key-none : (m at : ℕ) → m ≤ 0 → any_key s n m t at ≡ false

@@ -2,6 +2,7 @@
 -- In order: where bytes and a key decide alike; one step through the literals; the reader's way is that of the definition;
 -- the number of literals. Assumes nothing.
 use Prim.Native.Nat.{ℕ, zero, suc, ◌+◌, ◌-◌, ◌*◌, ◌≤◌}
+use Rattle.std.specs.Prelude.{Ok, Err}
 use native.Mathlib.Omega.{arith}
 use mathlib.Core.Path.{◌≡◌, refl, sym, ◌∙◌, ap}
 use mathlib.Core.Bool.{Bool, true, false}
@@ -20,7 +21,7 @@ use Rattle.literal.proofs.Laws.Literal.{encoded-decoded}
 use Rattle.literal.proofs.Laws.Order.{bytes_before-key_at, key_at-decoded, key-positive}
 use Rattle.record.specs.declared.Reason.TheVariants.{MemberWrong}
 use Rattle.record.specs.Refusal.{refusal}
-use Rattle.record.specs.Result.{Result, accepted, refused, and_then}
+use Rattle.record.specs.Result.{Answer, and_then}
 use Rattle.record.specs.Code.{run_of}
 use Rattle.record.proofs.Laws.Literals.{run-and-then}
 use Rattle.set.specs.Reading.{members_at}
@@ -45,28 +46,28 @@ module _ (F : Limits) where
 
   module _ (s : List ℕ) (at : ℕ) (last : List ℕ) (n : ℕ) where
     -- what one literal leaves
-    step : Decoded → Bool → Result (List Literal)
+    step : Decoded → Bool → Answer (List Literal)
     step d b =
         elim d [
-          | Wrong ↦ refused (refusal MemberWrong at)
+          | Wrong ↦ Err (refusal MemberWrong at)
           | Valid l ↦
               elim b [
-                | false ↦ refused (refusal MemberWrong at)
-                | true ↦ and_then (members_at F s (at + 5) (take 5 (drop at s)) n) (λ ls. accepted (l ∷ ls))
+                | false ↦ Err (refusal MemberWrong at)
+                | true ↦ and_then (members_at F s (at + 5) (take 5 (drop at s)) n) (λ ls. Ok (l ∷ ls))
               ]
         ]
 
-    pub members-wrong : decoded F (drop at s) ≡ Wrong → members_at F s at last (suc n) ≡ refused (refusal MemberWrong at)
+    pub members-wrong : decoded F (drop at s) ≡ Wrong → members_at F s at last (suc n) ≡ Err (refusal MemberWrong at)
     unfolding members_at step
     members-wrong e = ap (λ d. step d (bytes_before last (take 5 (drop at s)))) e
 
     pub members-low : (l : Literal) → decoded F (drop at s) ≡ Valid l → bytes_before last (take 5 (drop at s)) ≡ false
-        → members_at F s at last (suc n) ≡ refused (refusal MemberWrong at)
+        → members_at F s at last (suc n) ≡ Err (refusal MemberWrong at)
     unfolding members_at step
     members-low l e b = ap (λ d. step d (bytes_before last (take 5 (drop at s)))) e ∙ ap (λ x. step (Valid l) x) b
 
     pub members-right : (l : Literal) → decoded F (drop at s) ≡ Valid l → bytes_before last (take 5 (drop at s)) ≡ true
-        → members_at F s at last (suc n) ≡ and_then (members_at F s (at + 5) (take 5 (drop at s)) n) (λ ls. accepted (l ∷ ls))
+        → members_at F s at last (suc n) ≡ and_then (members_at F s (at + 5) (take 5 (drop at s)) n) (λ ls. Ok (l ∷ ls))
     unfolding members_at step
     members-right l e b = ap (λ d. step d (bytes_before last (take 5 (drop at s)))) e ∙ ap (λ x. step (Valid l) x) b
 

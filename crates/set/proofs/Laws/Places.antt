@@ -1,5 +1,6 @@
 -- Where a set is refused: within its literals. Assumes nothing.
 use Prim.Native.Nat.{ℕ, zero, suc, ◌+◌, ◌*◌, ◌≤◌}
+use Rattle.std.specs.Prelude.{Ok, Err}
 use native.Mathlib.Omega.{arith}
 use mathlib.Core.Bool.{Bool, true, false, not}
 use mathlib.Core.List.{List, ◌∷◌}
@@ -15,7 +16,7 @@ use Rattle.literal.specs.Literal.{decoded}
 use Rattle.literal.specs.Order.{bytes_before}
 use Rattle.record.specs.declared.Reason.TheVariants.{MemberWrong}
 use Rattle.record.specs.Refusal.{refusal}
-use Rattle.record.specs.Result.{Result, accepted, refused, and_then}
+use Rattle.record.specs.Result.{Answer, and_then}
 use Rattle.record.proofs.Laws.Places.{Placed, refuse-if-placed, and-then-placed}
 use Rattle.set.specs.Reading.{members_at, set_shape, parsed_set}
 
@@ -25,18 +26,18 @@ unfolding members_at
 members-placed F s zero at last k h = tt
 members-placed F s (suc n) at last k h = go (decoded F (drop at s)) (members-placed F s n (at + 5) (take 5 (drop at s)) k (omega arith))
   where
-    next : Result (List Literal)
+    next : Answer (List Literal)
     next = members_at F s (at + 5) (take 5 (drop at s)) n
 
-    above : Literal → Bool → Result (List Literal)
-    above l b = elim b [ false ↦ refused (refusal MemberWrong at) | true ↦ and_then next (λ ls. accepted (l ∷ ls)) ]
+    above : Literal → Bool → Answer (List Literal)
+    above l b = elim b [ false ↦ Err (refusal MemberWrong at) | true ↦ and_then next (λ ls. Ok (l ∷ ls)) ]
 
-    step : Decoded → Result (List Literal)
-    step d = elim d [ Wrong ↦ refused (refusal MemberWrong at) | Valid l ↦ above l (bytes_before last (take 5 (drop at s))) ]
+    step : Decoded → Answer (List Literal)
+    step d = elim d [ Wrong ↦ Err (refusal MemberWrong at) | Valid l ↦ above l (bytes_before last (take 5 (drop at s))) ]
 
     kept : (l : Literal) (b : Bool) → Placed k next → Placed k (above l b)
     kept l false ih = omega arith
-    kept l true ih = and-then-placed k next (λ ls. accepted (l ∷ ls)) ih (λ ls. tt)
+    kept l true ih = and-then-placed k next (λ ls. Ok (l ∷ ls)) ih (λ ls. tt)
 
     go : (d : Decoded) → Placed k next → Placed k (step d)
     go Wrong ih = omega arith

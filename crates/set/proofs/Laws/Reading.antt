@@ -2,6 +2,7 @@
 -- In order: the parts of a set's limits; the first four bytes; the law, each way and both; the length.
 -- Assumes nothing.
 use Prim.Native.Nat.{ℕ, ◌+◌, ◌*◌, ◌≤◌, ◌<◌}
+use Rattle.std.specs.Prelude.{Ok}
 use native.Mathlib.Omega.{arith}
 use mathlib.Core.Path.{◌≡◌, refl, sym, ◌∙◌, ap, ap₂, subst}
 use mathlib.Core.Bool.{true, not, ◌&&◌}
@@ -21,7 +22,6 @@ use Rattle.semantics.proofs.Laws.Tests.{both, first, second, along}
 use Rattle.record.specs.declared.Reason.TheVariants.{SetWrong, SetTooLarge}
 use Rattle.record.specs.Header.{set_letter, letter_of, colon}
 use Rattle.record.specs.Refusal.{refusal}
-use Rattle.record.specs.Result.{accepted}
 use Rattle.record.specs.Layout.{encoded_literals}
 use Rattle.record.proofs.Laws.Result.{refuse-if-accepted, refuse-if-false}
 use Rattle.record.proofs.Laws.Layout.{length-encoded-literals}
@@ -85,7 +85,7 @@ length-encoded-set ls = omega (arith, length-encoded-literals ls)
 
 module _ (F : Limits) (most : ℕ) where
   -- what is read is the encoding of a set within the limits
-  pub parsed-set-sound : (s : List ℕ) (ls : List Literal) → Bytes s → parsed_set F most s ≡ accepted ls → (s ≡ encoded_set ls) × T (keeps_set F most ls)
+  pub parsed-set-sound : (s : List ℕ) (ls : List Literal) → Bytes s → parsed_set F most s ≡ Ok ls → (s ≡ encoded_set ls) × T (keeps_set F most ls)
   unfolding parsed_set encoded_set
   parsed-set-sound s ls bytes e =
       let q = refuse-if-accepted (not (set_shape s)) (refusal SetWrong 0) _ ls e in
@@ -102,7 +102,7 @@ module _ (F : Limits) (most : ℕ) where
       )
 
   -- the encoding of a set within the limits is read as that set
-  pub parsed-set-complete : (ls : List Literal) → Bytes (encoded_set ls) → T (keeps_set F most ls) → parsed_set F most (encoded_set ls) ≡ accepted ls
+  pub parsed-set-complete : (ls : List Literal) → Bytes (encoded_set ls) → T (keeps_set F most ls) → parsed_set F most (encoded_set ls) ≡ Ok ls
   unfolding parsed_set encoded_set
   parsed-set-complete ls bytes k =
       refuse-if-false (not (set_shape s)) (refusal SetWrong 0) _ (ap not right)
@@ -123,12 +123,12 @@ module _ (F : Limits) (most : ℕ) where
           ∙ eq-eqb (length s) (4 + 5 * number_at s 2) (omega (arith, length-encoded-set ls, count))
 
   -- reading accepts s as ls exactly if s is the encoding of ls and ls keeps the limits
-  pub set-reading-iff : (s : List ℕ) (ls : List Literal) → Bytes s → (parsed_set F most s ≡ accepted ls) ↔ ((s ≡ encoded_set ls) × T (keeps_set F most ls))
+  pub set-reading-iff : (s : List ℕ) (ls : List Literal) → Bytes s → (parsed_set F most s ≡ Ok ls) ↔ ((s ≡ encoded_set ls) × T (keeps_set F most ls))
   set-reading-iff s ls bytes = (
     parsed-set-sound s ls bytes,
     λ w. ap (parsed_set F most) w.0 ∙ parsed-set-complete ls (subst Bytes w.0 bytes) w.1,
   )
 
   -- the length of a set that is accepted
-  pub length-parsed-set : (s : List ℕ) (ls : List Literal) → Bytes s → parsed_set F most s ≡ accepted ls → length s ≡ 4 + 5 * length ls
+  pub length-parsed-set : (s : List ℕ) (ls : List Literal) → Bytes s → parsed_set F most s ≡ Ok ls → length s ≡ 4 + 5 * length ls
   length-parsed-set s ls bytes e = ap length (parsed-set-sound s ls bytes e).0 ∙ length-encoded-set ls

@@ -1,6 +1,6 @@
 -- Laws of the search in a set's slice: what is known of a part is known of one of its halves.
 -- In order: keys, and where literals start; a key that is found, or that no literal has; the part that a search has left,
--- halved and at its end; the place that is found. Assumes nothing.
+-- halved and at its end. Assumes nothing.
 use Prim.Native.Nat.{ℕ, zero, suc, ◌+◌, ◌-◌, ◌*◌, ◌≤◌, ◌<◌}
 use native.Mathlib.Omega.{arith}
 use native.Mathlib.Nat.{eq-or-lt_of_le, add-zero, one-mul, zero-mul}
@@ -15,7 +15,7 @@ use Rattle.buffer.specs.Bytes.{Bytes}
 use Rattle.buffer.proofs.Laws.Bytes.{bytes_drop}
 use Rattle.literal.specs.Code.{key_at, key_room}
 use Rattle.literal.proofs.Laws.Order.{key_at-lt}
-use Rattle.set.specs.Code.{member_key, Ascends, has_key_from, has_key, Place}
+use Rattle.set.specs.Code.{member_key, Ascends, has_key_from, has_key}
 
 -- a literal's key is at most those of the literals from it on
 ascends-le : (s : List ℕ) (n : ℕ) → Ascends s n → (i j : ℕ) → i ≤ j → j < n → member_key s i ≤ member_key s j
@@ -123,11 +123,3 @@ module _ (s : List ℕ) (k : ℕ) where
         where
           only : (j : ℕ) → (base ≤ j) × (j < base + size) → j ≡ base
           only j w = omega arith
-
-  -- the place of a literal with the key; and where none has it
-  pub place_found : (n base size : ℕ) → Part n base size → member_key s base ≡ k → Place s n k base
-  place_found n base size p e =
-      record { most = omega (arith, p.inside); found = λ h. e; none = λ h. absurd (omega (arith, p.some_left, p.inside)) }
-
-  pub place_none : (n : ℕ) → has_key s n k ≡ false → Place s n k n
-  place_none n e = record { most = omega arith; found = λ h. absurd (omega arith); none = λ h. e }

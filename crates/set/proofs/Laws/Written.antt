@@ -2,6 +2,7 @@
 -- In order: the literals' bytes; the record.
 -- Assumes nothing.
 use Prim.Native.Nat.{ℕ}
+use Rattle.std.specs.Prelude.{Ok}
 use native.Mathlib.Omega.{arith}
 use mathlib.Core.Path.{◌≡◌}
 use mathlib.Core.List.{List, [], ◌∷◌, ◌++◌}
@@ -16,7 +17,6 @@ use Rattle.literal.proofs.Laws.Literal.{TwoBytes, bytes-encoded, takes-fits}
 use Rattle.semantics.specs.Set.{each_of}
 use Rattle.semantics.proofs.Laws.Tests.{first, second}
 use Rattle.record.specs.Header.{set_letter, colon}
-use Rattle.record.specs.Result.{accepted}
 use Rattle.record.specs.Layout.{encoded_literals}
 use Rattle.set.specs.Layout.{encoded_set, keeps_set}
 use Rattle.set.specs.Reading.{parsed_set}
@@ -40,5 +40,5 @@ module _ (F : Limits) (narrow : TwoBytes F) where
         (bytes-cons {b = colon} (two_bytes (length ls) ++ encoded_literals ls) (omega arith) behind)
 
     -- what is written for a set within the limits is read as that set
-    pub set-read-back : parsed_set F most (encoded_set ls) ≡ accepted ls
+    pub set-read-back : parsed_set F most (encoded_set ls) ≡ Ok ls
     set-read-back = parsed-set-complete F most ls bytes-set k

@@ -17,7 +17,7 @@ use Rattle.record.specs.Header.{naf_count}
 use Rattle.record.specs.Layout.{encoded_rules, encoded_end, encoded_program}
 use Rattle.record.proofs.Laws.Layout.{encoded-rules-append, length-encoded-rules}
 use Rattle.record_walk.proofs.Laws.Fields.{naf-count}
-use Rattle.record_walk.proofs.Laws.Walk.{Walk, More, next-keeps}
+use Rattle.record_walk.proofs.Laws.Records.{Ahead, Next, next-rule-keeps}
 use Rattle.translate_rule.specs.Code.{length_at, count_at}
 use Rattle.translate_rule.proofs.Laws.Sizes.{told, length-translated}
 use Rattle.translate.specs.Code.{Translatable}
@@ -72,7 +72,7 @@ pub record Adds (gone : Program) (t : List ℕ) : Type 0 where
   pub rules : length (translation gone) + count_at t < 65536
   pub numbers : length gone + 2 < 65536
 
-module _ {s : List ℕ} {p gone : Program} {at : ℕ} {t : List ℕ} (m : More s p gone at t) where
+module _ {p gone : Program} {t : List ℕ} (m : Next p gone t) where
   -- what the next rule's record adds: bytes, and rules
   pub adds_bytes : length (bytes_of (gone ++ m.the-rule ∷ [])) ≡ length (bytes_of gone) + length_at t
   adds_bytes =
@@ -116,12 +116,12 @@ module _ {s : List ℕ} {p gone : Program} {at : ℕ} {t : List ℕ} (m : More s
   -- and one naf literal more fits its byte
   pub next-nafs : Translatable p → naf_count t ≤ 254
   next-nafs ok =
-      let few = leb→le (length (naf m.the-rule)) 254 (next-keeps (λ r. leb (length (naf r)) 254) ok.nafs m) in
+      let few = leb→le (length (naf m.the-rule)) 254 (next-rule-keeps (λ r. leb (length (naf r)) 254) ok.nafs m) in
       omega (arith, few, naf-count t m.the-rule m.starts)
 
 -- at any place the rules of a translatable program's translation can be counted
-pub made-few : {s : List ℕ} {p gone : Program} {at : ℕ} → Walk s p gone at → Translatable p → length (translation gone) < 65536
-made-few {p = p} {gone = gone} w ok =
+pub made-few : {p gone : Program} {rest : List ℕ} → Ahead p gone rest → Translatable p → length (translation gone) < 65536
+made-few {p} {gone} w ok =
     omega (
       arith,
       count-translation gone,
@@ -133,21 +133,22 @@ made-few {p = p} {gone = gone} w ok =
 
 -- what writing has made of the rules that are gone
 pub record Made (out₀ out : List ℕ) (number made to : ℕ) (gone : Program) : Type 0 where
-  pub numbered : number ≡ 1 + length gone
+  pub numbered : number ≡ length gone
   pub counted : made ≡ length (translation gone)
   pub long : to ≡ length (bytes_of gone)
   pub written : out ≡ write out₀ 0 (bytes_of gone)
 
-pub made-start : (out : List ℕ) → Made out out 1 0 0 []
+pub made-start : (out : List ℕ) (number : ℕ) → number ≡ 0 → Made out out number 0 0 []
 unfolding translation translation_from encoded_rules
-made-start out = record { numbered = refl; counted = refl; long = refl; written = sym (write-nil out 0) }
+made-start out number e = record { numbered = e; counted = refl; long = refl; written = sym (write-nil out 0) }
 
-pub made-next : {s out₀ out e t : List ℕ} {p gone : Program} {at number made to : ℕ} (m : More s p gone at t) → Made out₀ out number made to gone
-    → e ≡ write out to (encoded_rules (translated_rule number m.the-rule)) → (count long : ℕ) → count ≡ count_at t → long ≡ length_at t
-    → Made out₀ e (number + 1) (made + count) (to + long) (gone ++ m.the-rule ∷ [])
-made-next {out₀ = out₀} {out} {gone = gone} {to = to} m w done count long ec el =
+pub made-next : {out₀ out e t : List ℕ} {p gone : Program} {number made to : ℕ} (m : Next p gone t) → Made out₀ out number made to gone
+    → (i next : ℕ) → i ≡ number → next ≡ number + 1 → e ≡ write out to (encoded_rules (translated_rule (i + 1) m.the-rule))
+    → (count long : ℕ) → count ≡ count_at t → long ≡ length_at t → Made out₀ e next (made + count) (to + long) (gone ++ m.the-rule ∷ [])
+made-next {out₀ = out₀} {out} {gone = gone} {to = to} m w i next ei en done count long ec el =
     let r = m.the-rule in
-    let here = done ∙ ap (λ (n : ℕ). write out to (encoded_rules (translated_rule n r))) w.numbered in
+    let one : i + 1 ≡ 1 + length gone = omega (arith, w.numbered) in
+    let here = done ∙ ap (λ (n : ℕ). write out to (encoded_rules (translated_rule n r))) one in
     record {
       numbered = omega (arith, w.numbered, length-append gone (r ∷ []));
       counted = omega (arith, w.counted, ec, adds-rules m);

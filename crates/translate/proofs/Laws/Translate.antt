@@ -1,11 +1,12 @@
 -- Laws of translating: the outcome, from what reading gives and the room that there is.
 -- In order: a translatable program; the answers that meet too short a buffer, and a translation; a refusal; the program that is meant; a
--- program that was read; what is given and answered, with sheets or without; the form of sources.
+-- program that was read; without sheets, and with them; the form of sources.
 -- Assumes nothing.
 use Prim.Native.Nat.{ℕ, ◌≤◌, ◌<◌}
+use Rattle.std.specs.Prelude.{Ok, Err}
 use native.Mathlib.Omega.{arith}
 use mathlib.Core.Path.{◌≡◌, refl, sym, ◌∙◌, ap, subst}
-use mathlib.Core.Bool.{Bool, false}
+use mathlib.Core.Bool.{false}
 use mathlib.Core.List.{List}
 use lib.Dec.{leb, le→leb}
 use lib.ListN.{length}
@@ -23,13 +24,10 @@ use Rattle.semantics.proofs.Laws.Length.{length-translation}
 use Rattle.semantics.proofs.Laws.Expanded.{Expanded, expanded-each}
 use Rattle.semantics.proofs.Laws.Room.{translation-count, translation_bytes}
 use Rattle.record.specs.declared.Held.{Held}
-use Rattle.record.specs.declared.Holding.{Holding}
 use Rattle.record.specs.declared.Reason.TheVariants.{OutputShort}
 use Rattle.record.specs.declared.Refusal.{Refusal}
-use Rattle.record.specs.declared.Written.{Written}
-use Rattle.record.specs.declared.Written.TheVariants.{Length, Refused}
 use Rattle.record.specs.Refusal.{refusal}
-use Rattle.record.specs.Result.{Result, accepted, and_then, delivered}
+use Rattle.record.specs.Result.{Answer, and_then, delivered}
 use Rattle.record.specs.Layout.{encoded_program}
 use Rattle.record.specs.Reading.{items, parsed, holding_of}
 use Rattle.record.specs.Code.{sheeted}
@@ -42,7 +40,7 @@ use Rattle.record_walk.specs.Code.{Holds, HoldsFile}
 use Rattle.expand.specs.Code.{normal_bytes, Normalizable, Meaning}
 use Rattle.expand.proofs.Laws.File.{file-means}
 use Rattle.translate.specs.Translate.{translated_bytes, translated}
-use Rattle.translate.specs.Code.{Translatable, Fitting, Writable, translation_of, Given, Answered}
+use Rattle.translate.specs.Code.{Translatable, Fitting, Writable, translation_of}
 
 -- a translation is as long as was measured
 pub length-translated : (p : Program) → length (encoded_program (translation p)) ≡ translation_length p
@@ -64,9 +62,9 @@ module _ (s out : List ℕ) (w : Holds Translatable s) (n : ℕ) (measured : (v 
   bytes = encoded_program (translation w.program)
 
   -- 9 where the buffer is shorter than the translation
-  pub short-met : length out < n → Meets (translation_of w.program out) (Refused (refusal OutputShort 0)) out
+  pub short-met : length out < n → Meets (translation_of w.program out) (Err (refusal OutputShort 0)) out
   unfolding bytes
-  short-met h = meets-short (accepted bytes) out bytes refl (omega (arith, measured w, length-translated w.program))
+  short-met h = meets-short (Ok bytes) out bytes refl (omega (arith, measured w, length-translated w.program))
 
   module _ (h : n ≤ length out) where
     -- what writing asks
@@ -75,33 +73,33 @@ module _ (s out : List ℕ) (w : Holds Translatable s) (n : ℕ) (measured : (v 
 
     -- the translation
     pub written-met : (e : List ℕ) → ((v : Holds (Fitting (length out)) s) → e ≡ write out 0 (encoded_program (translation v.program)))
-        → Meets (translation_of w.program out) (Length n) e
+        → Meets (translation_of w.program out) (Ok n) e
     unfolding bytes fitting
     written-met e done =
         let long = measured w ∙ sym (length-translated w.program) in
-        meets-written (accepted bytes) out bytes refl (omega (arith, long)) n e long (done fitting)
+        meets-written (Ok bytes) out bytes refl (omega (arith, long)) n e long (done fitting)
 
 module _ (F : Limits) (s out : List ℕ) where
   -- what reading refuses, translating does
-  pub refused-met : (x : Refusal) → holding_of (items F s) ≡ Holding.Refused x → Meets (translated F s out) (Refused x) out
+  pub refused-met : (x : Refusal) → holding_of (items F s) ≡ Err x → Meets (translated F s out) (Err x) out
   unfolding translated translated_bytes and_then
   refused-met x e =
       meets-refused (translated_bytes F s) out x
-      (ap (λ (q : Result Program). and_then q (λ p. accepted (encoded_program (translation p)))) (parsed-refused F s x (held-refused (items F s) x e)))
+      (ap (λ (q : Answer Program). and_then q (λ p. Ok (encoded_program (translation p)))) (parsed-refused F s x (held-refused (items F s) x e)))
 
   -- the translation of the program that is meant is the outcome, wherever it was made
-  translation-met : (p : Program) → parsed F s ≡ accepted p → {r : Written} {end : List ℕ} → Meets (translation_of p out) r end
+  translation-met : (p : Program) → parsed F s ≡ Ok p → {r : Answer ℕ} {end : List ℕ} → Meets (translation_of p out) r end
       → Meets (translated F s out) r end
   unfolding translated translated_bytes and_then
   translation-met p e {r} {end} m =
-      subst (λ (q : Result Program). Meets (delivered (and_then q (λ p. accepted (encoded_program (translation p)))) out) r end) (sym e) m
+      subst (λ (q : Answer Program). Meets (delivered (and_then q (λ p. Ok (encoded_program (translation p)))) out) r end) (sym e) m
 
   -- a file that was read
-  module _ (ok : Writable F) (bytes : Bytes s) (h : Held) (e : holding_of (items F s) ≡ Holding.All h) where
+  module _ (ok : Writable F) (bytes : Bytes s) (h : Held) (e : holding_of (items F s) ≡ Ok h) where
     is : List Item
     is = (held_items (items F s) h e).0
 
-    read : items F s ≡ accepted is
+    read : items F s ≡ Ok is
     unfolding is
     read = (held_items (items F s) h e).1
 
@@ -114,7 +112,7 @@ module _ (F : Limits) (s out : List ℕ) where
     given none =
         record { program = expanded is; bytes = held-unsheeted F s is bytes read h (held_items (items F s) h e).2 none; asked = can }
 
-    pub read-met : (none : sheeted h ≡ false) → {r : Written} {end : List ℕ} → ((w : Holds Translatable s) → Meets (translation_of w.program out) r end)
+    pub read-met : (none : sheeted h ≡ false) → {r : Answer ℕ} {end : List ℕ} → ((w : Holds Translatable s) → Meets (translation_of w.program out) r end)
         → Meets (translated F s out) r end
     unfolding given
     read-met none m = translation-met (expanded is) (items-parsed F s is read) (m (given none))
@@ -124,20 +122,13 @@ module _ (F : Limits) (s out : List ℕ) where
       pub given-file : HoldsFile (Meaning Translatable normal_bytes) s
       given-file = file-means F normal s is bytes read can
 
-      pub file-met : {r : Written} {end : List ℕ}
+      pub file-met : {r : Answer ℕ} {end : List ℕ}
           → ((w : HoldsFile (Meaning Translatable normal_bytes) s) → Meets (translation_of (expanded w.items) out) r end) → Meets (translated F s out) r end
       unfolding given-file file-means
       file-met m = translation-met (expanded is) (items-parsed F s is read) (m given-file)
 
--- what is given and what is answered, where it is known whether there are sheets
-pub given-as : {a b : Bool} (s : List ℕ) → a ≡ b → Given a s → Given b s
-given-as s e w = subst (λ (x : Bool). Given x s) e w
-
-pub answered-as : {a b : Bool} (s out : List ℕ) (r : Written) (end : List ℕ) → a ≡ b → Answered b s out r end → Answered a s out r end
-answered-as s out r end e m = subst (λ (x : Bool). Answered x s out r end) (sym e) m
-
 -- the same limits have the same outcome
-pub meets-same : (F G : Limits) (s out : List ℕ) {r : Written} {e : List ℕ} → F ≡ G → Meets (translated F s out) r e → Meets (translated G s out) r e
+pub meets-same : (F G : Limits) (s out : List ℕ) {r : Answer ℕ} {e : List ℕ} → F ≡ G → Meets (translated F s out) r e → Meets (translated G s out) r e
 meets-same F G s out {r} {e} same m = subst (λ (H : Limits). Meets (translated H s out) r e) same m
 
 -- a translation is made in the form of sources

@@ -12,7 +12,7 @@ use Rattle.literal.specs.Literal.{encoded}
 use Rattle.record.specs.Layout.{encoded_literals}
 use Rattle.record.proofs.Laws.Layout.{length-encoded-literals}
 use Rattle.record_walk.specs.Code.{option_at, options_at}
-use Rattle.record_walk.proofs.Laws.Options.{length-options-at, options-first, options-none}
+use Rattle.record_walk.proofs.Laws.Options.{length-options-at, options-next, options-none}
 use Rattle.translate_options.specs.Code.{mark_of}
 
 module _ (s : List ℕ) where
@@ -21,10 +21,11 @@ module _ (s : List ℕ) where
     abbrev pub marks : ℕ → ℕ → List ℕ
     marks at n = encoded_literals (map (mark_of d t) (options_at s at n))
 
-    -- the first option's mark, and the marks that are left
-    pub marks-first : (at n : ℕ) → 0 < n → marks at n ≡ encoded (mark_of d t (option_at s at)) ++ marks (at + 5) (n - 1)
+    -- what is left of n marks behind the first i: the next option's mark, and those behind it
+    pub marks-next : (i n : ℕ) → i < n
+        → marks (7 + 5 * i) (n - i) ≡ encoded (mark_of d t (option_at s (7 + 5 * i))) ++ marks (7 + 5 * (i + 1)) (n - (i + 1))
     unfolding encoded_literals
-    marks-first at n h = ap (λ (os : List SignedAtom). encoded_literals (map (mark_of d t) os)) (options-first s at n h)
+    marks-next i n h = ap (λ (os : List SignedAtom). encoded_literals (map (mark_of d t) os)) (options-next s i n h)
 
     -- no mark left
     pub marks-none : (at n : ℕ) → n ≤ 0 → marks at n ≡ []

@@ -1,7 +1,7 @@
 -- Laws of rules (4), (5) and (6): their records as pieces, and their lengths.
 -- In order: a header and two literals; the record of each; those of one option; those of a record's options, one option each.
 -- Assumes nothing.
-use Prim.Native.Nat.{ℕ, ◌+◌, ◌-◌, ◌≤◌, ◌<◌}
+use Prim.Native.Nat.{ℕ, ◌+◌, ◌*◌, ◌-◌, ◌≤◌, ◌<◌}
 use native.Mathlib.Omega.{arith}
 use mathlib.Core.Bool.{true, false}
 use mathlib.Core.Path.{◌≡◌, refl, ◌∙◌, ap}
@@ -19,7 +19,7 @@ use Rattle.semantics.specs.Translation.{holds_if_derived, derived_if_holds, neve
 use Rattle.record.specs.Layout.{encoded_literals, rule_record, encoded_rule, encoded_rules}
 use Rattle.record.proofs.Laws.Layout.{encoded-rules-append}
 use Rattle.record_walk.specs.Code.{option_at, options_at}
-use Rattle.record_walk.proofs.Laws.Options.{options-first, options-none}
+use Rattle.record_walk.proofs.Laws.Options.{options-next, options-none}
 use Rattle.record_write.specs.Code.{header}
 use Rattle.record_write.proofs.Laws.Stores.{length-header}
 use Rattle.translate_options.specs.Code.{mark_of}
@@ -79,12 +79,13 @@ module _ (s : List ℕ) (t : Tag) where
   abbrev pub option_bytes : ℕ → ℕ → List ℕ
   option_bytes at n = encoded_rules (options t (options_at s at n))
 
-  -- those of the first option, and those that are left
-  pub option-bytes-first : (at n : ℕ) → 0 < n → option_bytes at n ≡ encoded_rules (option t (option_at s at)) ++ option_bytes (at + 5) (n - 1)
+  -- what is left of those for n options behind the first i: the next option's, and those behind them
+  pub option-bytes-next : (i n : ℕ) → i < n
+      → option_bytes (7 + 5 * i) (n - i) ≡ encoded_rules (option t (option_at s (7 + 5 * i))) ++ option_bytes (7 + 5 * (i + 1)) (n - (i + 1))
   unfolding options
-  option-bytes-first at n h =
-      ap (λ (os : List SignedAtom). encoded_rules (options t os)) (options-first s at n h)
-      ∙ encoded-rules-append (option t (option_at s at)) (options t (options_at s (at + 5) (n - 1)))
+  option-bytes-next i n h =
+      ap (λ (os : List SignedAtom). encoded_rules (options t os)) (options-next s i n h)
+      ∙ encoded-rules-append (option t (option_at s (7 + 5 * i))) (options t (options_at s (7 + 5 * (i + 1)) (n - (i + 1))))
 
   -- none left
   pub option-bytes-none : (at n : ℕ) → n ≤ 0 → option_bytes at n ≡ []

@@ -4,12 +4,12 @@ use native.Mathlib.Omega.{arith}
 use mathlib.Core.Path.{◌∙◌, ap}
 use borrow.Author.Rules.{rules}
 use Rattle.literal.specs.Limits.{plain}
-use Rattle.aspda_word.specs.Words.{written_word}
+use Rattle.aspda_word.specs.Words.{count_word}
 use Rattle.aspda.proofs.Laws.Words.{exported-short}
 use Rattle.aspda.proofs.exports.aspda_aspif.Statement.{statement}
 use Rattle.aspda.proofs.exports.aspda_aspif.Tie as tie
 
-written-word-requires : tie.Need-written_word-requires
+written-word-requires : tie.Need-count_word-requires
 unfolding plain
 written-word-requires c κs =
     let a = c.args in
@@ -18,7 +18,7 @@ written-word-requires c κs =
 returns : tie.Need-returns
 returns c =
     let met = c.export_plain.ensures in
-    record { answer = c.written_word.ensures ∙ ap written_word met.answer; buffer = met.buffer }
+    record { answer = c.count_word.ensures ∙ ap count_word met.answer; buffer = met.buffer }
 
 pub aspda_aspif_spec : {M : Type 1} → statement M
 aspda_aspif_spec = tie.close (tie.spec (λ c κs. search rules) written-word-requires (λ c. search rules) returns)

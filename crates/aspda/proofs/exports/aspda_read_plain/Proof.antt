@@ -4,17 +4,17 @@ use native.Mathlib.Omega.{arith}
 use mathlib.Core.Path.{◌∙◌, ap}
 use borrow.Author.Rules.{rules}
 use Rattle.literal.specs.Limits.{plain}
-use Rattle.aspda_word.specs.Words.{reading_word}
+use Rattle.aspda_word.specs.Words.{count_word}
 use Rattle.aspda.proofs.Laws.Words.{reading-short}
 use Rattle.aspda.proofs.exports.aspda_read_plain.Statement.{statement}
 use Rattle.aspda.proofs.exports.aspda_read_plain.Tie as tie
 
-reading-word-requires : tie.Need-reading_word-requires
+reading-word-requires : tie.Need-count_word-requires
 unfolding plain
 reading-word-requires c κs = reading-short plain (omega arith) c.args.s.now _ c.read_plain.ensures
 
 returns : tie.Need-returns
-returns c = c.reading_word.ensures ∙ ap reading_word c.read_plain.ensures
+returns c = c.count_word.ensures ∙ ap count_word c.read_plain.ensures
 
 pub aspda_read_plain_spec : {M : Type 1} → statement M
 aspda_read_plain_spec = tie.close (tie.spec (λ c κs. search rules) reading-word-requires returns)

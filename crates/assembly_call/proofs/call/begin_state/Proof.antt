@@ -1,12 +1,12 @@
 -- `call::begin_state` meets its contract: another length, no room, or a state that is open.
 -- Assumes nothing.
 use native.Mathlib.Omega.{arith}
+use Rattle.std.specs.Prelude.{Ok}
 use mathlib.Core.Path.{◌≡◌, sym, ap, subst, ◌∙◌}
 use mathlib.Core.List.{[]}
 use lib.ListN.{length}
 use borrow.Author.Rules.{rules}
 use Rattle.literal.specs.Limits.{source}
-use Rattle.record.specs.declared.Reading.{Reading}
 use Rattle.assembly.specs.State.{opened, state_bytes, encoded_stage}
 use Rattle.assembly.specs.Calls.{begin}
 use Rattle.assembly.specs.Code.{Assemblable}
@@ -50,7 +50,7 @@ returns-3 c =
     let a = c.args in
     keeps _ _ _ a.out.now
     (begin-held source a.state.now a.out.now (long else-state-lim) c.if-out-lt4.false
-    ∙ ap (λ st. record { answer = Reading.Count 0; state = st; buffer = a.out.now })
+    ∙ ap (λ st. record { answer = Ok 0; state = st; buffer = a.out.now })
     (sym (c.open_state.ensures ∙ ap (λ F. encoded_stage F (opened [])) c.limits-lim.ensures)))
 
 pub begin_state_spec : {M : Type 1} → statement M

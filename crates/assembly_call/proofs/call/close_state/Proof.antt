@@ -1,6 +1,7 @@
 -- `call::close_state` meets its contract: no open assembly, no room, or the end record behind the rules.
 -- Assumes nothing.
 use Prim.Native.Nat.{ℕ}
+use Rattle.std.specs.Prelude.{Ok}
 use native.Mathlib.Omega.{arith}
 use mathlib.Core.Path.{◌≡◌, sym, ap, ap₂, ◌∙◌}
 use mathlib.Core.List.{List}
@@ -8,7 +9,6 @@ use borrow.Author.Rules.{rules}
 use borrow.Author.Tests.{not-true, not-false}
 use Rattle.buffer.specs.Bytes.{Bytes}
 use Rattle.literal.specs.Limits.{source}
-use Rattle.record.specs.declared.Reading.{Reading}
 use Rattle.assembly.specs.declared.Standing.{Standing}
 use Rattle.assembly.specs.State.{stage_of}
 use Rattle.assembly.specs.Code.{standing_of}
@@ -58,7 +58,7 @@ returns-3 c =
     let h = c.inspect_source-standing.result in
     meets _ _ _ _
     (close-held source assemblable-source _ _ _ _ (active else-not-standing) c.if-out-bytes.false
-    ∙ ap₂ (λ (x y : List ℕ). record { answer = Reading.Count h.rules; state = x; buffer = y }) (sym c.put_byte.ensures) (sym c.write_end.ensures))
+    ∙ ap₂ (λ (x y : List ℕ). record { answer = Ok h.rules; state = x; buffer = y }) (sym c.put_byte.ensures) (sym c.write_end.ensures))
 
 pub close_state_spec : {M : Type 1} → statement M
 close_state_spec =

@@ -1,6 +1,7 @@
 -- `call::drop_last` meets its contract: no open assembly, no rule, or one rule less.
 -- Assumes nothing.
 use Prim.Native.Nat.{ℕ, ◌-◌}
+use Rattle.std.specs.Prelude.{Ok}
 use native.Mathlib.Omega.{arith}
 use mathlib.Core.Path.{◌≡◌, sym, ap, ◌∙◌}
 use mathlib.Core.List.{List, []}
@@ -9,7 +10,6 @@ use borrow.Author.Tests.{not-true, not-false}
 use Rattle.buffer.specs.Bytes.{Bytes}
 use Rattle.literal.specs.declared.Limits.{Limits}
 use Rattle.literal.specs.Limits.{source}
-use Rattle.record.specs.declared.Reading.{Reading}
 use Rattle.assembly.specs.declared.Standing.{Standing}
 use Rattle.assembly.specs.State.{stage_of}
 use Rattle.assembly.specs.Code.{standing_of, with_shape}
@@ -60,7 +60,7 @@ returns-3 c =
     let st = c.args.state.now in
     keeps _ _ _ []
     (drop-held source assemblable-source st [] _ _ (active else-not-standing) (omega (arith, c.if-rules-eq0.false))
-    ∙ ap (λ (x : List ℕ). record { answer = Reading.Count (h.rules - 1); state = x; buffer = [] })
+    ∙ ap (λ (x : List ℕ). record { answer = Ok (h.rules - 1); state = x; buffer = [] })
     (sym (c.put_shape.ensures ∙ ap (λ (F : Limits). with_shape F st (h.rules - 1) (h.rules - 1) 0 0) c.limits.ensures)))
 
 pub drop_last_spec : {M : Type 1} → statement M

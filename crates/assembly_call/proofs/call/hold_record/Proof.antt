@@ -1,13 +1,13 @@
 -- `call::hold_record` meets its contract: no room, or the record written and its shape held.
 -- Assumes nothing.
 use Prim.Native.Nat.{ℕ, ◌+◌}
+use Rattle.std.specs.Prelude.{Ok}
 use native.Mathlib.Omega.{arith}
 use mathlib.Core.Path.{sym, ap, ap₂, ◌∙◌}
 use mathlib.Core.List.{List}
 use borrow.Author.Rules.{rules}
 use Rattle.literal.specs.declared.Limits.{Limits}
 use Rattle.literal.specs.Limits.{source}
-use Rattle.record.specs.declared.Reading.{Reading}
 use Rattle.record.proofs.Laws.Only.{Added, only-added}
 use Rattle.assembly.specs.State.{shape_of, body_byte}
 use Rattle.assembly.specs.Code.{with_shape}
@@ -93,7 +93,7 @@ returns-2 c =
     meets _ _ _ _
     (add-held source assemblable-source a.state.now a.out.now n a.held.bytes (active at-slice_known-2) a.rule.now a.size c.requires.1.1
     c.if-out-end.false (added at-slice_known-2).room
-    ∙ ap₂ (λ (x y : List ℕ). record { answer = Reading.Count (n + 1); state = x; buffer = y })
+    ∙ ap₂ (λ (x y : List ℕ). record { answer = Ok (n + 1); state = x; buffer = y })
     (sym (c.put_shape.ensures
     ∙ ap₂ (λ (F : Limits) (b : ℕ). with_shape F a.state.now (n + 1) n b (body_byte (shape_of a.rule.now))) c.limits.ensures c.heads_byte-heads.ensures))
     (sym c.copy.ensures))

@@ -14,7 +14,7 @@ use Rattle.quotient.proofs.pass.is_room.Tie as tie
 returns : tie.Need-returns-then-s-room
 returns c w =
     let a = c.args in
-    let u = key_set a.set.now a.count in
+    let u = key_set a.set.bytes.now a.set.count in
     sym (le-leb (length (quotient_of w.program u)) a.room (omega (arith, quotient-of-short w.program u, ap length w.bytes, c.if-s-room.true)))
 
 returns-2 : tie.Need-returns
