@@ -118,9 +118,9 @@ pub fn read_marking(
     };
     // No iterator: how far the next record goes, only reading it says, and it may be refused.
     loop {
-        match mark_record(lim, &s[at..], held, bits, counts) {
-            Ok(step) => {
-                let Some((size, more)) = hold(held, step) else {
+        match hold(held, mark_record(lim, &s[at..], held, bits, counts)) {
+            Ok(found) => {
+                let Some((size, more)) = found else {
                     return Ok(held.rules);
                 };
                 at += size;

@@ -21,6 +21,7 @@ use Rattle.set.specs.Layout.{encoded_set}
 use Rattle.quotient_rule.specs.Code.{left_at}
 use Rattle.check_force.specs.declared.Clause.{Clause}
 use Rattle.check_force.specs.Code.{clauses_of}
+use Rattle.check_clauses.specs.declared.Left.{Left}
 
 -- the position of the first of n literals from `at` on that has this key, as a mask; empty where none has it
 unfoldable pub key_mask_from : List ℕ → ℕ → ℕ → ℕ → ℕ
@@ -49,9 +50,9 @@ positions_of s n ks = cond (each_of (has_key s n) ks) (Some (union (key_mask s n
 abbrev pub literal_mask : List ℕ → ℕ → Literal → ℕ
 literal_mask s n l = key_mask s n (key l)
 
--- the positions of literals, if there are any
-unfoldable pub left_of : List ℕ → ℕ → List Literal → Option ℕ
-left_of s n ls = cond (eqb (length ls) 0) None (Some (union (literal_mask s n) ls))
+-- how many literals there are and their positions, if there are any
+unfoldable pub left_of : List ℕ → ℕ → List Literal → Option Left
+left_of s n ls = cond (eqb (length ls) 0) None (Some (record { count = length ls; mask = union (literal_mask s n) ls }))
 
 -- the clause of the rule whose record starts t, with this body, by the set of s's n literals: of a defeasible rule where an option
 -- is left

@@ -2,6 +2,13 @@
 
 #![tactic(auto)]
 
+// How many options are left, where any is, and their positions.
+#[derive(Clone, Copy)]
+pub struct Left {
+    pub count: usize,
+    pub mask: u64,
+}
+
 pub mod build;
 pub mod masks;
 mod options;

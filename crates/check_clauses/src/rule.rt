@@ -19,8 +19,11 @@ fn clause_with(t: &[u8], body: u64, set: Positions) -> Option<Clause>
         let head = set.mask_heads(heads, t, 7);
         return Some(Clause { body, head });
     }
-    let head = mask_options(t, heads, set)?;
-    Some(Clause { body, head })
+    let left = mask_options(t, heads, set)?;
+    Some(Clause {
+        body,
+        head: left.mask,
+    })
 }
 
 // The clause of what the set leaves of the rule, if it leaves anything and each positive literal is in the set. Without one, every

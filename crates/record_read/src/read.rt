@@ -80,9 +80,9 @@ pub fn read_items(lim: Limits, s: &[u8]) -> Result<Held, Refusal>
             rules: run.rules,
             ..held
         };
-        match read_stop(lim, &s[place..], passed, run.stop) {
-            Ok(step) => {
-                let Some((size, more)) = hold(passed, step) else {
+        match hold(passed, read_stop(lim, &s[place..], passed, run.stop)) {
+            Ok(found) => {
+                let Some((size, more)) = found else {
                     return Ok(passed);
                 };
                 at = place + size;

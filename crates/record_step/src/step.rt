@@ -5,7 +5,7 @@ ghost use Rattle.literal.specs.declared.Limits.{Limits};
 ghost use Rattle.semantics.specs.Form.{keeps_counts};
 ghost use Rattle.record.specs.Result.{and_then};
 ghost use Rattle.record.specs.Reading.{literals_at, mark_at, tag_right, body_at, rule_at, end_at, record_at, entry_size};
-ghost use Rattle.record.specs.Code.{run_of, signed_kinds, next_of};
+ghost use Rattle.record.specs.Code.{run_of, signed_kinds, found_of};
 ghost use Rattle.record_step.specs.Code.{opening, judged, FrontAt};
 
 use crate::{Front, Opening};
@@ -64,7 +64,8 @@ fn are_counts_kept(lim: Limits, heads: usize, positives: usize, nafs: usize) -> 
     nafs <= lim.nafs
 }
 
-// The literals behind a rule's header, up to the first wrong one.
+// The literals behind a rule's header, up to the first wrong one. Part of its callers, as `read_body` is.
+#[inline(always)]
 fn read_literals(lim: Limits, t: &[u8], count: usize) -> Result<(), Refusal>
     requires { 7 + 5 * count ≤ length t.now }
     ensures { result ≡ run_of (literals_at lim t.now 7 count) }
@@ -117,7 +118,9 @@ pub fn judge_literals(
     Ok(size)
 }
 
-// How long a rule's record is whose header is right: its literals, then what a defeasible head may hold.
+// How long a rule's record is whose header is right: its literals, then what a defeasible head may hold. Part of its callers: the compiler would
+// keep it apart, since it has two, and reading a program of small rules would take up to twice the time.
+#[inline(always)]
 pub fn read_body(
     lim: Limits,
     defeasible: bool,
@@ -192,35 +195,40 @@ pub fn read_front(lim: Limits, t: &[u8], held: usize) -> Result<Front, Refusal>
 }
 
 // What is left behind a record, where `held` came before it: the part behind so many bytes, with one item more held; nothing behind the end.
-pub fn hold(held: Held, step: Step) -> Option<(usize, Held)>
+// A refusal stays one.
+pub fn hold(held: Held, found: Result<Step, Refusal>) -> Result<Option<(usize, Held)>, Refusal>
     requires { held.rules + held.overrides + held.oppositions < 9223372036854775808 }
-    ensures { result ≡ next_of held step }
+    ensures { result ≡ found_of held found }
 {
     let rules = held.rules;
     let overrides = held.overrides;
     let oppositions = held.oppositions;
+    let step = match found {
+        Ok(step) => step,
+        Err(x) => return Err(x),
+    };
     match step {
-        Step::Rule(size) => Some((
+        Step::Rule(size) => Ok(Some((
             size,
             Held {
                 rules: rules + 1,
                 ..held
             },
-        )),
-        Step::Override(size) => Some((
+        ))),
+        Step::Override(size) => Ok(Some((
             size,
             Held {
                 overrides: overrides + 1,
                 ..held
             },
-        )),
-        Step::Opposition(size) => Some((
+        ))),
+        Step::Opposition(size) => Ok(Some((
             size,
             Held {
                 oppositions: oppositions + 1,
                 ..held
             },
-        )),
-        Step::End => None,
+        ))),
+        Step::End => Ok(None),
     }
 }

@@ -36,6 +36,7 @@ module _ (s : List ℕ) (n : ℕ) (ls : List Literal) where
   unfolding left_of
   left-nothing e = rw (eq-eqb (length ls) 0 e)
 
-  pub left-gathered : (mask : ℕ) → (length ls ≡ 0 → ⊥) → mask ≡ union (literal_mask s n) ls → left_of s n ls ≡ Some mask
+  pub left-gathered : (count mask : ℕ) → count ≡ length ls → (length ls ≡ 0 → ⊥) → mask ≡ union (literal_mask s n) ls
+      → left_of s n ls ≡ Some (record { count = count; mask = mask })
   unfolding left_of
-  left-gathered mask f e = rw (ne_eqb (length ls) 0 f, e)
+  left-gathered count mask k f e = rw (ne_eqb (length ls) 0 f, k, e)

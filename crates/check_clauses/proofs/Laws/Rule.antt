@@ -9,6 +9,7 @@ use Rattle.record.specs.Header.{defeasible_letter, letter_of, head_count, positi
 use Rattle.set.specs.Code.{has_key, any_key}
 use Rattle.quotient_rule.specs.Code.{left_at}
 use Rattle.check_force.specs.declared.Clause.{Clause}
+use Rattle.check_clauses.specs.declared.Left.{Left}
 use Rattle.check_clauses.specs.Code.{key_mask, keys_at, union, positions_of, literal_mask, left_of, clause_with, clause_at}
 
 module _ (t : List ℕ) (body : ℕ) (s : List ℕ) (n : ℕ) where
@@ -24,20 +25,25 @@ module _ (t : List ℕ) (body : ℕ) (s : List ℕ) (n : ℕ) where
     unfolding clause_with left_of
     with_none e = rw (eq-eqb (letter_of t) defeasible_letter d) (go (eqb (length (left_at t s n 7 (head_count t))) 0) e)
       where
-        go : (b : Bool) → None ≡ cond b None (Some (union (literal_mask s n) (left_at t s n 7 (head_count t))))
+        go : (b : Bool)
+            → None ≡ cond {A = Option Left} b None
+            (Some (record { count = length (left_at t s n 7 (head_count t)); mask = union (literal_mask s n) (left_at t s n 7 (head_count t)) }))
             → cond {A = Option Clause} b None (Some (record { body = body; head = union (literal_mask s n) (left_at t s n 7 (head_count t)) })) ≡ None
         go true q = refl
         go false q = cc
 
     -- and where one is
-    pub with-left : (m : ℕ) → Some m ≡ left_of s n (left_at t s n 7 (head_count t)) → clause_with t body s n ≡ Some (record { body = body; head = m })
+    pub with-left : (m : Left) → Some m ≡ left_of s n (left_at t s n 7 (head_count t))
+        → clause_with t body s n ≡ Some (record { body = body; head = m.mask })
     unfolding clause_with left_of
     with-left m e = rw (eq-eqb (letter_of t) defeasible_letter d) (go (eqb (length (left_at t s n 7 (head_count t))) 0) e)
       where
-        go : (b : Bool) → Some m ≡ cond b None (Some (union (literal_mask s n) (left_at t s n 7 (head_count t))))
-            → cond {A = Option Clause} b None (Some (record { body = body; head = union (literal_mask s n) (left_at t s n 7 (head_count t)) })) ≡ Some (record { body = body; head = m })
+        go : (b : Bool)
+            → Some m ≡ cond b None
+            (Some (record { count = length (left_at t s n 7 (head_count t)); mask = union (literal_mask s n) (left_at t s n 7 (head_count t)) }))
+            → cond {A = Option Clause} b None (Some (record { body = body; head = union (literal_mask s n) (left_at t s n 7 (head_count t)) })) ≡ Some (record { body = body; head = m.mask })
         go true q = cc
-        go false q = ap (λ (x : ℕ). Some (record { body = body; head = x })) (let z : m ≡ union (literal_mask s n) (left_at t s n 7 (head_count t)) = cc in sym z)
+        go false q = ap (λ (x : ℕ). Some (record { body = body; head = x })) (let z : m.mask ≡ union (literal_mask s n) (left_at t s n 7 (head_count t)) = cc in sym z)
 
 module _ (t s : List ℕ) (n : ℕ) where
   -- a naf literal is in the set

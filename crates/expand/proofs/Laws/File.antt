@@ -3,9 +3,9 @@
 use Prim.Native.Nat.{ℕ, ◌≤◌}
 use Rattle.std.specs.Prelude.{Ok}
 use native.Mathlib.Omega.{arith}
-use mathlib.Core.Path.{◌≡◌}
+use mathlib.Core.Path.{◌≡◌, ap}
 use mathlib.Core.List.{List}
-use lib.ListN.{length, take, length-append}
+use lib.ListN.{length, take, length-append, length-take}
 use Rattle.buffer.specs.Bytes.{Bytes}
 use Rattle.literal.specs.declared.Limits.{Limits}
 use Rattle.literal.specs.Limits.{source}
@@ -41,6 +41,29 @@ module _ (F : Limits) (ok : Normalizable F) (s : List ℕ) (is : List Item) (byt
   file-means asked =
       record { items = is; bytes = (items-read F s is bytes read).0; asked = record { expandable = expandable normal_bytes (omega arith); asked = asked } }
 
+-- more bytes are enough too
+unfoldable pub means-wider : {P : Program → Type 0} {most room : ℕ} {s : List ℕ} → HoldsFile (Meaning P most) s → most ≤ room → HoldsFile (Meaning P room) s
+means-wider w more =
+    let e = w.asked.expandable in
+    record {
+      items = w.items;
+      bytes = w.bytes;
+      asked =
+          record {
+            expandable =
+                record {
+                  form = e.form;
+                  keeps = e.keeps;
+                  sheets = e.sheets;
+                  tags = e.tags;
+                  atoms = e.atoms;
+                  room = omega (arith, e.room, more);
+                  rules = e.rules;
+                };
+            asked = w.asked.asked;
+          };
+    }
+
 module _ {P : Program → Type 0} {most : ℕ} {s : List ℕ} (w : HoldsFile (Meaning P most) s) where
   -- what expanding asks
   pub means-expandable : HoldsFile (Expandable most) s
@@ -51,6 +74,9 @@ module _ {P : Program → Type 0} {most : ℕ} {s : List ℕ} (w : HoldsFile (Me
     pub normal : Normal d w.items n e
     unfolding means-expandable
     normal = made means-expandable
+
+    pub normal-fits : n ≤ length e
+    normal-fits = omega (arith, normal.size, ap length normal.bytes, length-take n e)
 
     unfoldable pub normal-holds : Holds P (take n e)
     normal-holds = record { program = expanded w.items; bytes = normal.bytes; asked = w.asked.asked }

@@ -10,17 +10,13 @@ use mathlib.Core.List.{List}
 use lib.Dec.{ltb, eqb}
 use borrow.Author.Tests.{le-ltb, ne_eqb}
 use Rattle.literal.specs.declared.Limits.{Limits}
-use Rattle.semantics.specs.Rule.{Rule}
-use Rattle.semantics.specs.Item.{rule}
 use Rattle.record.specs.declared.Refusal.{Refusal}
 use Rattle.record.specs.declared.Step.{Step}
 use Rattle.record.specs.Header.{strict_letter, defeasible_letter, end_letter, override_letter, opposition_letter, head_count, positive_count, naf_count}
 use Rattle.record.specs.Result.{Answer, and_then}
-use Rattle.record.specs.Reading.{Mark, RuleMark, OverrideMark, OppositionMark, EndMark, NoMark, Entry, item, body_at, end_at, marked, pick_mark, mark_at, is_rule, entry_size}
+use Rattle.record.specs.Reading.{Mark, RuleMark, OverrideMark, OppositionMark, EndMark, NoMark, Entry, body_at, marked, pick_mark, mark_at, is_rule, entry_size}
 use Rattle.record.specs.Code.{step_of}
 use Rattle.record.proofs.Laws.Marks.{letter_mark}
-use Rattle.record.proofs.Laws.Result.{accepted-eq, refuse-if-accepted}
-use Rattle.record.proofs.Laws.Program.{step-rule}
 use Rattle.record.proofs.Laws.Only.{same-size, body-ruled, body_refused}
 use Rattle.record_step.specs.declared.Opening.{Opening}
 use Rattle.record_step.specs.declared.Front.{Front}

@@ -13,10 +13,9 @@ use lib.ListN.{length}
 use borrow.Author.Tests.{eq-eqb, ne_eqb, eqb-true, eqb-false}
 use Rattle.literal.specs.declared.Limits.{Limits}
 use Rattle.record.specs.declared.Reason.TheVariants.{HeadWrong}
-use Rattle.record.specs.declared.Step.{Step}
 use Rattle.record.specs.Refusal.{refusal}
 use Rattle.record.specs.Reading.{literals_at, body_at, entry_size}
-use Rattle.record.specs.Code.{run_of, signed_kinds, step_of}
+use Rattle.record.specs.Code.{run_of, signed_kinds}
 use Rattle.record.proofs.Laws.Body.{body-wrong, body-strict, body-empty, body-marked, body-signed}
 use Rattle.record.proofs.Laws.Only.{rule_sized, refused-sized}
 use Rattle.record_step.specs.Code.{judged}

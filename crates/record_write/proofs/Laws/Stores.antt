@@ -1,11 +1,12 @@
--- Laws of what is written piece by piece: a header, an end record, a refusal.
+-- Laws of what is written piece by piece: a header, a run of bytes, an end record, a refusal.
 -- Assumes nothing.
-use Prim.Native.Nat.{ℕ, ◌+◌, ◌/◌, ◌%◌, ◌≤◌}
-use native.Mathlib.Numerals.{towards_suc}
+use Prim.Native.Nat.{ℕ, zero, suc, ◌+◌, ◌-◌, ◌/◌, ◌%◌, ◌≤◌, ◌<◌}
+use native.Mathlib.Numerals.{towards_suc, add-one}
 use native.Mathlib.Omega.{arith}
-use mathlib.Core.Path.{◌≡◌, refl, ◌∙◌, ap}
+use mathlib.Core.Path.{◌≡◌, refl, sym, ◌∙◌, ap}
 use mathlib.Core.List.{List, [], ◌∷◌, ◌++◌}
-use lib.ListN.{length, set}
+use lib.ListN.{length, get_or, take, drop, set}
+use lib.Seq.{drop-cons}
 use Rattle.buffer.specs.Bytes.{two_bytes, four_bytes}
 use Rattle.buffer.specs.Write.{write}
 use Rattle.buffer.proofs.Laws.Write.{sets-write, two-sets-write}
@@ -27,6 +28,36 @@ pub header-stores : (d : List ℕ) (at h b c : ℕ) → at + 7 ≤ length d
     ≡ write d at (header h b c)
 unfolding header
 header-stores d at h b c fits = simp towards_suc (sets-write d at (header h b c) (omega arith))
+
+module _ (s : List ℕ) where
+  -- the first byte of a run, and those that are left
+  pub bytes-first : (at n : ℕ) → 0 < n → at < length s → take n (drop at s) ≡ (get_or s at 0 ∷ []) ++ take (n - 1) (drop (at + 1) s)
+  bytes-first at zero h k = absurd (omega arith)
+  bytes-first at (suc n) h k =
+      ap (take (suc n)) (drop-cons s at 0 k) ∙ ap (λ (i : ℕ). get_or s at 0 ∷ take n (drop i s)) (sym (add-one at))
+      ∙ ap (λ (m : ℕ). get_or s at 0 ∷ take m (drop (at + 1) s)) back
+    where
+      back : n ≡ suc n - 1
+      back = omega arith
+
+  -- no byte left
+  pub bytes-none : (at n : ℕ) → n ≤ 0 → take n (drop at s) ≡ []
+  bytes-none at zero h = refl
+  bytes-none at (suc n) h = absurd (omega arith)
+
+  -- of n bytes from a place on, the one behind i of them, and those behind it
+  pub bytes-next : (at n i : ℕ) → i < n → at + n ≤ length s
+      → take (n - i) (drop (at + i) s) ≡ (get_or s (at + i) 0 ∷ []) ++ take (n - (i + 1)) (drop (at + (i + 1)) s)
+  bytes-next at n i h k =
+      bytes-first (at + i) (n - i) (omega arith) (omega arith)
+      ∙ ap (λ (m : ℕ). get_or s (at + i) 0 ∷ take m (drop (at + i + 1) s)) fewer
+      ∙ ap (λ (j : ℕ). get_or s (at + i) 0 ∷ take (n - (i + 1)) (drop j s)) behind
+    where
+      fewer : n - i - 1 ≡ n - (i + 1)
+      fewer = omega arith
+
+      behind : at + i + 1 ≡ at + (i + 1)
+      behind = omega arith
 
 -- two stores and a number behind them write an end record
 pub end-stores : (d e : List ℕ) (at n : ℕ) → at + 4 ≤ length d

@@ -1,10 +1,10 @@
 -- `read::mark_literals` meets its contract: each literal that is right is marked, and leaves the run behind it.
 -- Assumes nothing.
-use Rattle.std.proofs.Common.{arith, ◌+◌, ◌-◌, ◌*◌, ◌≡◌, ℕ, sym, ap, ap₂, subst, ◌∙◌}
+use Rattle.std.proofs.Common.{arith, ◌+◌, ◌-◌, ◌*◌, ◌≡◌, sym, ap, ◌∙◌}
 use borrow.Author.Rules.{part_to_end}
 use Rattle.literal.specs.Literal.{decoded}
 use Rattle.literal.specs.Code.{is_valid}
-use Rattle.aspif_read.proofs.Laws.Literals.{Marking, valid-placed, marking-next, marking-wrong, marking-right, marking-gained}
+use Rattle.aspif_read.proofs.Laws.Literals.{valid-placed, marking-next, marking-wrong, marking-right, marking-gained}
 use Rattle.aspif_read.proofs.read.mark_literals.Goals as goal
 
 pub returns-then-not-is_literal-clause-value : goal.returns-then-not-is_literal-clause-value

@@ -1,6 +1,6 @@
 -- `read::mark_record` meets its contract: what stands before the literals tells the record, or they do, and the rule is a strict one.
 -- Assumes nothing.
-use Rattle.std.proofs.Common.{arith, refl, sym, ap, ◌∙◌, Ok, Err}
+use Rattle.std.proofs.Common.{refl, sym, ap, ◌∙◌, Ok, Err}
 use Rattle.std.proofs.lemmas.Result.{err_from_is_err_and}
 use Rattle.record.proofs.Laws.Header.{record-unmarked}
 use Rattle.record_step.proofs.Laws.Front.{front-refused, front-end, front-literals, front-other, other-unmarked}

@@ -5,8 +5,8 @@ use Rattle.std.proofs.Common.{◌-◌, length}
 use Rattle.aspif_read.proofs.Laws.Program.{Going}
 use Rattle.aspif_read.proofs.read.read_marking.Given as goal
 
-abbrev pub invariant-loop-step : goal.invariant-loop-step
-invariant-loop-step l = Going l.lim l.s l.initial.bits l.bits l.counts l.at l.held
+abbrev pub invariant-loop-found : goal.invariant-loop-found
+invariant-loop-found l = Going l.lim l.s l.initial.bits l.bits l.counts l.at l.held
 
-abbrev pub decreases-loop-step : goal.decreases-loop-step
-decreases-loop-step l = length l.s - l.at
+abbrev pub decreases-loop-found : goal.decreases-loop-found
+decreases-loop-found l = length l.s - l.at

@@ -1,7 +1,8 @@
 -- `options::mask_options` meets its contract: each option is passed or gathered.
-use Rattle.std.proofs.Common.{◌+◌, ◌-◌, ◌*◌, sym, ◌∙◌, ap, length, bit_or, arith}
+use Rattle.std.proofs.Common.{◌+◌, ◌-◌, ◌*◌, ◌≡◌, sym, ◌∙◌, ap, length, bit_or, arith}
 use Rattle.literal.specs.declared.Literal.TheVariants.{Signed}
 use Rattle.literal.specs.Order.{key}
+use Rattle.quotient_rule.specs.Code.{left_at}
 use Rattle.quotient_rule.proofs.Laws.Left.{left-passed, left-taken, left-none}
 use Rattle.check_clauses.specs.Code.{key_mask, union, literal_mask}
 use Rattle.check_clauses.proofs.Laws.Union.{union-end}
@@ -35,16 +36,17 @@ loop-i-preserved c =
           }
     ]
 
-pub returns-then-left-eq0 : goal.returns-then-left-eq0
-returns-then-left-eq0 c =
+pub returns-then-count-eq0 : goal.returns-then-count-eq0
+returns-then-count-eq0 c =
     let s = c.args.set.set in
     let none = left-none c.args.t.now s.bytes.now s.count (7 + 5 * c.loop-i.i) (c.args.heads - c.loop-i.i) (omega arith) in
-    sym (left-nothing s.bytes.now s.count _ (omega (arith, ap length none, c.loop-i.invariant.found, c.if-left-eq0.true)))
+    sym (left-nothing s.bytes.now s.count _ (omega (arith, ap length none, c.loop-i.invariant.found, c.if-count-eq0.true)))
 
-pub returns-else-left-eq0 : goal.returns-else-left-eq0
-returns-else-left-eq0 c =
+pub returns : goal.returns
+returns c =
     let s = c.args.set.set in
     let l = c.loop-i in
     let none = left-none c.args.t.now s.bytes.now s.count (7 + 5 * l.i) (c.args.heads - l.i) (omega arith) in
-    sym (left-gathered s.bytes.now s.count _ l.mask (λ e. c.if-left-eq0.false (omega (arith, ap length none, l.invariant.found, e)))
+    let many : l.count ≡ length (left_at c.args.t.now s.bytes.now s.count 7 c.args.heads) = omega (arith, ap length none, l.invariant.found) in
+    sym (left-gathered s.bytes.now s.count _ l.count l.mask many (λ e. c.if-count-eq0.false (omega (arith, many, e)))
     (sym (l.invariant.gathered ∙ ap (λ ls. bit_or l.mask (union (literal_mask s.bytes.now s.count) ls)) none ∙ union-end (literal_mask s.bytes.now s.count) l.mask)))

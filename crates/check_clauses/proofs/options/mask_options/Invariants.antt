@@ -11,7 +11,7 @@ invariant-loop-i l =
     let all = left_at l.t s n 7 l.heads in
     let rest = left_at l.t s n (7 + 5 * l.i) (l.heads - l.i) in
     record {
-      few : l.left ≤ l.i;
-      found : l.left + length rest ≡ length all;
+      few : l.count ≤ l.i;
+      found : l.count + length rest ≡ length all;
       gathered : union (literal_mask s n) all ≡ bit_or l.mask (union (literal_mask s n) rest);
     }

@@ -11,12 +11,12 @@ returns-then-t-ne68 c =
     ap with-head c.mask_heads-head.ensures
     ∙ sym (with-strict c.args.t.now c.args.body s.bytes.now s.count c.if-t-ne68.true)
 
-pub returns-in_err-head : goal.returns-in_err-head
-returns-in_err-head c =
+pub returns-in_err-left : goal.returns-in_err-left
+returns-in_err-left c =
     let s = c.args.set.set in
-    c.from_residual.ensures ∙ sym (with_none c.args.t.now c.args.body s.bytes.now s.count c.if-t-ne68.false c.in_err-head.ensures)
+    c.from_residual.ensures ∙ sym (with_none c.args.t.now c.args.body s.bytes.now s.count c.if-t-ne68.false c.in_err-left.ensures)
 
 pub returns : goal.returns
 returns c =
     let s = c.args.set.set in
-    sym (with-left c.args.t.now c.args.body s.bytes.now s.count c.if-t-ne68.false _ c.in_ok-head.ensures)
+    sym (with-left c.args.t.now c.args.body s.bytes.now s.count c.if-t-ne68.false _ c.in_ok-left.ensures)

@@ -1,8 +1,7 @@
 -- `with::with_normal` meets its contract: the array holds the normal form.
 -- Assumes nothing.
-use Rattle.std.proofs.Common.{rules, arith, refl, sym, ap, ◌∙◌, length, take, length-take-le}
+use Rattle.std.proofs.Common.{arith, refl, sym, ap, ◌∙◌, length}
 use lib.ListN.{length-take}
-use Rattle.expand.specs.Code.{Normal}
 use Rattle.expand.proofs.with.with_normal.Goals as goal
 
 pub slice_bounds-normal-end : goal.slice_bounds-normal-end

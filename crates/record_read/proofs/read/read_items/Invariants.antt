@@ -6,8 +6,8 @@ use Rattle.record.specs.Reading.{items, holding_of}
 use Rattle.record.specs.Code.{total, left}
 use Rattle.record_read.proofs.read.read_items.Given as goal
 
-abbrev pub invariant-loop-step : goal.invariant-loop-step
-invariant-loop-step l = (l.at ≤ length l.s) × (6 * total l.held ≤ l.at) × (holding_of (items l.lim l.s) ≡ left l.lim l.s l.at l.held)
+abbrev pub invariant-loop-found : goal.invariant-loop-found
+invariant-loop-found l = (l.at ≤ length l.s) × (6 * total l.held ≤ l.at) × (holding_of (items l.lim l.s) ≡ left l.lim l.s l.at l.held)
 
-abbrev pub decreases-loop-step : goal.decreases-loop-step
-decreases-loop-step l = length l.s - l.at
+abbrev pub decreases-loop-found : goal.decreases-loop-found
+decreases-loop-found l = length l.s - l.at

@@ -1,6 +1,6 @@
 -- `read::read_rules` meets its contract: a run ends where a record is no right rule's, and each rule leaves reading as it was.
 -- Assumes nothing.
-use Rattle.std.proofs.Common.{arith, ◌+◌, ◌-◌, ◌≡◌, ◌≤◌, ℕ, length, take, drop, Ok}
+use Rattle.std.proofs.Common.{arith, ◌+◌, ◌-◌, ◌≡◌, ◌≤◌, length, take, drop, Ok}
 use borrow.Author.Rules.{part_to_end}
 use Rattle.record.specs.declared.Step.{Step}
 use Rattle.record.specs.declared.Held.{Held}

@@ -1,6 +1,6 @@
 -- `step::is_head_signed` meets its contract: each kind byte of a signed atom leaves those behind it.
 -- Assumes nothing.
-use Rattle.std.proofs.Common.{arith, ◌+◌, ◌-◌, ◌*◌, ◌<◌, ℕ, sym, ap₂, ◌∙◌}
+use Rattle.std.proofs.Common.{arith, ◌+◌, ◌-◌, ◌*◌, ℕ, sym, ap₂, ◌∙◌}
 use Rattle.record.specs.Code.{signed_kinds}
 use Rattle.record.proofs.Laws.Literals.{kinds-signed, kinds-marked, kinds-nil}
 use Rattle.record_step.proofs.step.is_head_signed.Goals as goal

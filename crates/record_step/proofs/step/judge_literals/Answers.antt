@@ -1,6 +1,6 @@
 -- `step::judge_literals` meets its contract: what was refused, a strict rule, or a defeasible one by its head.
 -- Assumes nothing.
-use Rattle.std.proofs.Common.{rules, ◌≡◌, Bool, true, Ok, Err, sym, ap, ap₂, ◌∙◌}
+use Rattle.std.proofs.Common.{Bool, Err, sym, ap, ap₂, ◌∙◌}
 use Rattle.std.proofs.lemmas.Result.{err_from_is_err_and}
 use Rattle.record.specs.Result.{Answer}
 use Rattle.record_step.specs.Code.{judged}

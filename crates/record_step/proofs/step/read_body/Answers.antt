@@ -1,6 +1,6 @@
 -- `step::read_body` meets its contract: the literals are cut, or what they come to.
 -- Assumes nothing.
-use Rattle.std.proofs.Common.{arith, sym, ◌∙◌}
+use Rattle.std.proofs.Common.{sym, ◌∙◌}
 use Rattle.record.proofs.Laws.Body.{body-cut}
 use Rattle.record.proofs.Laws.Only.{refused-sized}
 use Rattle.record_step.proofs.Laws.Judged.{body-judged}

@@ -1,6 +1,6 @@
 -- `step::read_literals` meets its contract: each literal that is right leaves the run behind it.
 -- Assumes nothing.
-use Rattle.std.proofs.Common.{arith, ◌+◌, ◌-◌, ◌*◌, ◌<◌, ◌≡◌, ℕ, sym, ap, ap₂, ◌∙◌}
+use Rattle.std.proofs.Common.{arith, ◌+◌, ◌-◌, ◌*◌, ℕ, sym, ap, ap₂, ◌∙◌}
 use borrow.Author.Rules.{part_to_end}
 use Rattle.literal.specs.Literal.{decoded}
 use Rattle.literal.specs.Code.{is_valid}

@@ -1,13 +1,21 @@
--- What is copied is `count` bytes of s, and as many give way to them.
-use Rattle.std.proofs.Common.{ap, arith, ◌+◌, ◌-◌, ◌≡◌, ◌∙◌, take, drop, length, length-drop}
-use lib.Seq.{length-take-le}
-use Rattle.buffer.proofs.Laws.Write.{part-write}
+-- A byte is written, and the others are left; at the end none is.
+use Rattle.std.proofs.Common.{arith, ◌+◌, ◌-◌, ap, sym, ◌∙◌, [], ◌∷◌, slice_index_or, take, drop}
+use Rattle.buffer.specs.Write.{write}
+use Rattle.buffer.proofs.Laws.Write.{write-nil, set-write}
+use Rattle.buffer.proofs.Laws.Next.{write-left}
+use Rattle.record_write.proofs.Laws.Stores.{bytes-next, bytes-none}
 use Rattle.record_write.proofs.copy.copy.Goals as goal
+
+pub loop-i-preserved : goal.loop-i-preserved
+loop-i-preserved c =
+    let a = c.args in
+    let l = c.loop-i in
+    let s = a.s.now in
+    l.invariant ∙ ap (write l.out (a.to + l.i)) (bytes-next s a.from a.count l.i c.loop-i-test.true c.requires.count_in_bounds)
+    ∙ write-left l.out (a.to + l.i) (slice_index_or s (a.from + l.i) 0 ∷ []) (a.to + (l.i + 1)) (take (a.count - (l.i + 1)) (drop (a.from + (l.i + 1)) s)) (omega arith) (omega arith) _
+    (set-write l.out (a.to + l.i) _ (omega arith))
 
 pub returns : goal.returns
 returns c =
-    let a = c.args in
-    let behind = drop a.from a.s.now in
-    let many : a.from + a.count - a.from ≡ a.count = omega arith in
-    let long : length (take a.count behind) ≡ a.count = length-take-le a.count behind (omega (arith, length-drop a.from a.s.now)) in
-    part-write a.out.now a.to _ (take a.count behind) (c.copy_from_slice.ensures.after ∙ ap (λ n. take n behind) many) (omega arith)
+    let l = c.loop-i in
+    sym (l.invariant ∙ ap (write l.out _) (bytes-none c.args.s.now _ _ (omega arith)) ∙ write-nil l.out _)
